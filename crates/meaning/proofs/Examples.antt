@@ -1,0 +1,57 @@
+-- M1 to M12 hold: the table's test is computed, and what is computed is an equation for each row.
+use Prim.Native.Nat.{ℕ}
+use mathlib.Core.Path.{_≡_, refl, ap₂}
+use mathlib.Core.Bool.{Bool, true, false, _&&_}
+use mathlib.Core.List.{List, [], _∷_, List·Memᴰ, List·Memᴰ·head, List·Memᴰ·tail}
+use lib.Dec.{T, eqb, eqb→eq}
+use Rattle.meaning.specs.Basics.{all}
+use Rattle.meaning.specs.Settings.{roomsOf, roomsInRange, bytesNeeded, settingsOf, settingsInRange, lookupOf, entityInRange, routeInRange, lookupInRange, numberOf, numberInRange, dialledInRange}
+use Rattle.meaning.specs.Filters.{filterOf, filterInRange, fitsNumber, rank, compareFilters}
+use Rattle.meaning.specs.Rules.{firstLargest, weight, chosenPlace, chosen}
+use Rattle.meaning.specs.Actions.{valueOf, actionsOf, mostOf, caInRange, contentInRange}
+use Rattle.meaning.specs.Groups.{nothingWithoutCA, oneFormat, formatStands, fpfxFirst, oneXAction, precedence, isBacked, formattingBacked, groupsHold, fpfxMeetsPrefix, casFit, fit}
+use Rattle.meaning.specs.Conditioning.{stretchOf, valueFrom, conditionedFrom}
+use Rattle.meaning.specs.Services.{atStart, responded, inprtg, rnSet, cdpnnp, asdlkup, grnlkup, cdial, carryOut, eightPlaces, valueToSend}
+use Rattle.meaning.specs.Plan.{fresh, withSlot, withRules}
+use Rattle.meaning.specs.Answer.{refused, unserved, served, outgoingClass, formatted, afterServices, answerBy, answerOf}
+use Rattle.meaning.specs.Reads.{conditionedBy}
+use Rattle.meaning.specs.Calls.{bodyLength, openingLines, addSetLines, addRuleLines, refusal, after}
+use Rattle.meaning.specs.Examples.{Row, shown, table}
+
+sameList : List ℕ → List ℕ → Bool
+sameList [] [] = true
+sameList [] (y ∷ ys) = false
+sameList (x ∷ xs) [] = false
+sameList (x ∷ xs) (y ∷ ys) = eqb x y && sameList xs ys
+
+and-left : (a b : Bool) → T (a && b) → T a
+and-left true b t = tt
+and-left false b t = t
+
+and-right : (a b : Bool) → T (a && b) → T b
+and-right true b t = t
+and-right false b t = absurd t
+
+same-list : (xs ys : List ℕ) → T (sameList xs ys) → xs ≡ ys
+unfolding sameList
+same-list [] [] t = refl
+same-list [] (y ∷ ys) t = absurd t
+same-list (x ∷ xs) [] t = absurd t
+same-list (x ∷ xs) (y ∷ ys) t =
+    ap₂ _∷_ (eqb→eq x y (and-left (eqb x y) (sameList xs ys) t)) (same-list xs ys (and-right (eqb x y) (sameList xs ys) t))
+
+rowHolds : Row → Bool
+rowHolds r = sameList (shown (r .query) (r .calls)) (r .result)
+
+every-row : (rs : List Row) → T (all rowHolds rs) → (r : Row) → List·Memᴰ r rs → shown (r .query) (r .calls) ≡ r .result
+unfolding rowHolds
+every-row (x ∷ xs) t r (List·Memᴰ·head e) = rw e (same-list _ _ (and-left (rowHolds x) (all rowHolds xs) t))
+every-row (x ∷ xs) t r (List·Memᴰ·tail m) = every-row xs (and-right (rowHolds x) (all rowHolds xs) t) r m
+
+table-test : T (all rowHolds table)
+unfolding roomsOf roomsInRange bytesNeeded settingsOf settingsInRange lookupOf entityInRange routeInRange lookupInRange numberOf numberInRange dialledInRange filterOf filterInRange fitsNumber rank compareFilters firstLargest weight chosenPlace chosen valueOf actionsOf mostOf caInRange contentInRange nothingWithoutCA oneFormat formatStands fpfxFirst oneXAction precedence isBacked formattingBacked groupsHold fpfxMeetsPrefix casFit fit stretchOf valueFrom conditionedFrom atStart responded inprtg rnSet cdpnnp asdlkup grnlkup cdial carryOut eightPlaces valueToSend fresh withSlot withRules refused unserved served outgoingClass formatted afterServices answerBy answerOf conditionedBy bodyLength openingLines addSetLines addRuleLines refusal after sameList rowHolds table
+table-test = tt
+
+-- every row of the table: what is asked is answered with the row's result
+pub marked-examples : (r : Row) → List·Memᴰ r table → shown (r .query) (r .calls) ≡ r .result
+marked-examples = every-row table table-test

@@ -1,0 +1,206 @@
+-- Demand 3 over the definitions: soundness is kept by every call, refused or accepted, and carrying a plan through the calls agrees with looking back.
+use Prim.Native.Nat.{ℕ, zero, suc, _+_, _≤_, _<_}
+use mathlib.Core.Path.{_≡_, refl, ap, sym, subst, _∙_}
+use mathlib.Core.Logic.{_↔_, _⊎_, inl, inr}
+use mathlib.Core.Bool.{Bool, true, false, _&&_, _||_, not}
+use mathlib.Core.List.{List, [], _∷_, map, List·Memᴰ}
+use mathlib.Core.Option.{Option, none, some}
+use native.Mathlib.Omega.{arith}
+use lib.ListN.{length, getD, List·getD-eq-default}
+use lib.Dec.{T, eqb, leb}
+use borrow.Author.Tests.{eqb-true, leb-true}
+use Rattle.meaning.specs.Basics.{if_then_else_, all, any, count, isZero, isSome}
+use Rattle.meaning.specs.Refusals.{CUT, PLAN, IN-USE, Line, firstOf}
+use Rattle.meaning.specs.Settings.{Rooms, roomsOf}
+use Rattle.meaning.specs.Filters.{Filter, filterOf}
+use Rattle.meaning.specs.Rules.{Rule, filterIn, names, setNamed}
+use Rattle.meaning.specs.Plan.{Plan, held, referrers, fresh, withSlot, withRules, sound}
+use Rattle.meaning.specs.Reads.{overRoom, Listed, listing, listed}
+use Rattle.meaning.specs.Calls.{Operation, openPlan, addSet, replaceSet, removeSet, addRule, changeRule, removeRule, Call, isCut, bodyOf, openedRooms, openedSettings, setNumber, openingLines, addSetLines, replaceSetLines, removeSetLines, addRuleLines, changeRuleLines, removeRuleLines, linesOf, refusal, made, isAccepted, after, putInFrom, putIn, refusalsFrom}
+use Rattle.meaning.specs.LookBack.{acceptedFrom, accepted, openingAfter, lastOpening, contentAfter, lastContent, setAfter, lastSet}
+use Rattle.meaning.specs.History.{rising, removal, PutIn, EveryList, ListsExactly}
+use Rattle.meaning.proofs.Tests.{is-true, is-false, true-is, false-is, and-left, and-right, and-both, none-counted}
+use Rattle.meaning.proofs.Soundness.{Sound, sound-of, SoundIf, accepted-passed, accepted-sound}
+use Rattle.meaning.proofs.ReadBack.{heldIn, setIn, ReadsBack, reads-back, empty-slots}
+use Rattle.meaning.proofs.Listings.{rising-listed, one-list, lists-named, distinct-filters}
+
+-- NO CALL OVER A PLAN DRAWS PLAN: none of its checks has that number
+
+not-plan : (ls : List Line) → T (all (λ (l : Line). not (eqb (l .1) PLAN)) ls) → T (not (eqb (firstOf ls) PLAN))
+not-plan [] t = tt
+not-plan (l ∷ ls) t = go (l .0) (not-plan ls (and-right (not (eqb (l .1) PLAN)) (all (λ (l : Line). not (eqb (l .1) PLAN)) ls) t))
+  where
+    go : (b : Bool) → T (not (eqb (firstOf ls) PLAN)) → T (not (eqb (if b then l .1 else firstOf ls) PLAN))
+    go true ih = and-left (not (eqb (l .1) PLAN)) (all (λ (l : Line). not (eqb (l .1) PLAN)) ls) t
+    go false ih = ih
+
+numbers : (lacks : List ℕ → Bool) (p : Plan) (o : Operation) (b : List ℕ) → T (all (λ (l : Line). not (eqb (l .1) PLAN)) (linesOf o lacks (some p) b))
+unfolding openingLines addSetLines replaceSetLines removeSetLines addRuleLines changeRuleLines removeRuleLines
+numbers lacks p openPlan b = tt
+numbers lacks p addSet b = tt
+numbers lacks p replaceSet b = tt
+numbers lacks p removeSet b = tt
+numbers lacks p addRule b = tt
+numbers lacks p changeRule b = tt
+numbers lacks p removeRule b = tt
+
+pub never-plan : (lacks : List ℕ → Bool) (p : Plan) (c : Call) → T (not (eqb (refusal lacks (some p) c) PLAN))
+unfolding refusal
+never-plan lacks p c = not-plan ((isCut c, CUT) ∷ linesOf (c .operation) lacks (some p) (bodyOf c)) (numbers lacks p (c .operation) (bodyOf c))
+
+-- ONE CALL
+
+-- what was put in agrees with looking back over the accepted calls, the newest first
+record Agrees (p : Plan) (past : List Call) : Type 0 where
+  is-sound : Sound p
+  opening : List ℕ
+  opened : lastOpening past ≡ some opening
+  rooms : p .rooms ≡ openedRooms opening
+  settings : p .settings ≡ openedSettings opening
+  sets : (n : ℕ) → held p n ≡ lastContent n past
+  filters : (f : Filter) → setNamed f (p .rules) ≡ lastSet f past
+
+-- the opening in force after an accepted call
+record Opened (p : Plan) (o : Operation) (b : List ℕ) (before : Option (List ℕ)) : Type 0 where
+  opening : List ℕ
+  opened : openingAfter o b before ≡ some opening
+  rooms : p .rooms ≡ openedRooms opening
+  settings : p .settings ≡ openedSettings opening
+
+module _ (p : Plan) (b opening : List ℕ) (before : Option (List ℕ)) (e : before ≡ some opening) (r : p .rooms ≡ openedRooms opening)
+    (s : p .settings ≡ openedSettings opening) where
+  kept : (q : Plan) (o : Operation) → openingAfter o b before ≡ before → q .rooms ≡ p .rooms → q .settings ≡ p .settings → Opened q o b before
+  kept q o a x y = record { opening = opening; opened = a ∙ e; rooms = x ∙ r; settings = y ∙ s }
+
+  opened-after : (o : Operation) → (q : Plan) × (made o (some p) b ≡ some q) × Opened q o b before
+  unfolding fresh withSlot withRules
+  opened-after openPlan = (_, refl, record { opening = b; opened = refl; rooms = refl; settings = refl })
+  opened-after addSet = (_, refl, kept _ addSet refl refl refl)
+  opened-after replaceSet = (_, refl, kept _ replaceSet refl refl refl)
+  opened-after removeSet = (_, refl, kept _ removeSet refl refl refl)
+  opened-after addRule = (_, refl, kept _ addRule refl refl refl)
+  opened-after changeRule = (_, refl, kept _ changeRule refl refl refl)
+  opened-after removeRule = (_, refl, kept _ removeRule refl refl refl)
+
+-- an accepted call keeps the agreement
+accept : (lacks : List ℕ → Bool) (p : Plan) (past : List Call) (c : Call) → Agrees p past → refusal lacks (some p) c ≡ 0
+    → (q : Plan) × (made (c .operation) (some p) (bodyOf c) ≡ some q) × Agrees q (c ∷ past)
+accept lacks p past c a e =
+    let t = opened-after p (bodyOf c) (a .opening) (lastOpening past) (a .opened) (a .rooms) (a .settings) (c .operation) in
+    let q : Plan = t .0 in
+    let is : made (c .operation) (some p) (bodyOf c) ≡ some q = t .1 in
+    let back = reads-back lacks p c (a .is-sound) e in (
+      q,
+      is,
+      record {
+        is-sound = subst SoundIf is (accepted-sound lacks (some p) c (a .is-sound) e);
+        opening = t .2 .opening;
+        opened = t .2 .opened;
+        rooms = t .2 .rooms;
+        settings = t .2 .settings;
+        sets = λ n. sym (ap (λ (s : Option Plan). heldIn s n) is) ∙ (back .sets n ∙ ap (contentAfter (c .operation) (bodyOf c) n) (a .sets n));
+        filters = λ f. sym (ap (λ (s : Option Plan). setIn s f) is) ∙ (back .filters f ∙ ap (setAfter (c .operation) (bodyOf c) f) (a .filters f));
+      },
+    )
+
+-- ANY CALLS OVER A SOUND PLAN
+
+record Reached (lacks : List ℕ → Bool) (p : Plan) (past cs : List Call) : Type 0 where
+  plan : Plan
+  carried : putInFrom lacks (some p) cs ≡ some plan
+  agrees : Agrees plan (acceptedFrom lacks (some p) past cs)
+  unplanned : T (all (λ (r : ℕ). not (eqb r PLAN)) (refusalsFrom lacks (some p) cs))
+
+step : (lacks : List ℕ → Bool) (p : Plan) (past : List Call) (c : Call) → Agrees p past
+    → (q : Plan) × (after lacks (some p) c ≡ some q) × Agrees q (if isAccepted lacks (some p) c then c ∷ past else past)
+unfolding after
+step lacks p past c a = go (isAccepted lacks (some p) c) refl
+  where
+    go : (t : Bool) → isAccepted lacks (some p) c ≡ t
+        → (q : Plan) × ((if t then made (c .operation) (some p) (bodyOf c) else some p) ≡ some q) × Agrees q (if t then c ∷ past else past)
+    go true e = accept lacks p past c a (eqb-true (refusal lacks (some p) c) 0 e)
+    go false e = (p, refl, a)
+
+reach : (lacks : List ℕ → Bool) (p : Plan) (past cs : List Call) → Agrees p past → Reached lacks p past cs
+reach lacks p past [] a = record { plan = p; carried = refl; agrees = a; unplanned = tt }
+reach lacks p past (c ∷ cs) a =
+    let one = step lacks p past c a in
+    let rest = reach lacks (one .0) (if isAccepted lacks (some p) c then c ∷ past else past) cs (one .2) in
+    record {
+      plan = rest .plan;
+      carried = rw (one .1) (rest .carried);
+      agrees = rw (one .1) (rest .agrees);
+      unplanned = and-both (not (eqb (refusal lacks (some p) c) PLAN)) (all (λ (r : ℕ). not (eqb r PLAN)) (refusalsFrom lacks (after lacks (some p) c) cs))
+          (never-plan lacks p c) (rw (one .1) (rest .unplanned));
+    }
+
+-- REMOVING A HELD SET
+
+held-below : (p : Plan) (n : ℕ) → Sound p → T (isSome (held p n)) → overRoom p n ≡ false
+held-below p n s t = rw (← s .room) (go (leb (length (p .slots)) n) refl)
+  where
+    go : (b : Bool) → leb (length (p .slots)) n ≡ b → leb (length (p .slots)) n ≡ false
+    go true e = absurd (rw (List·getD-eq-default (p .slots) none (leb-true (length (p .slots)) n e)) at t)
+    go false e = e
+
+pub removable : (lacks : List ℕ → Bool) (p : Plan) → Sound p → (b : List ℕ) → T (not (isCut (removal b))) → T (isSome (held p (setNumber (bodyOf (removal b)))))
+    → ((refusal lacks (some p) (removal b) ≡ 0) ↔ (referrers p (setNumber (bodyOf (removal b))) ≡ 0))
+    × ((refusal lacks (some p) (removal b) ≡ 0) ⊎ (refusal lacks (some p) (removal b) ≡ IN-USE))
+unfolding refusal removeSetLines referrers
+removable lacks p s b u t =
+    let n : ℕ = setNumber (bodyOf (removal b)) in
+    rw (is-false (isCut (removal b)) u, held-below p n s t, is-true (isSome (held p n)) t)
+    (go (any (names n) (p .rules)) (none-counted (names n) (p .rules)))
+  where
+    go : (c : Bool) → (c ≡ false) ↔ (count (names (setNumber (bodyOf (removal b)))) (p .rules) ≡ 0)
+        → ((_≡_ {A = ℕ} (if c then IN-USE else 0) 0) ↔ (count (names (setNumber (bodyOf (removal b)))) (p .rules) ≡ 0))
+        × ((_≡_ {A = ℕ} (if c then IN-USE else 0) 0) ⊎ (_≡_ {A = ℕ} (if c then IN-USE else 0) IN-USE))
+    go true ih = ((λ e. absurd (omega (arith, e)), λ e. let z : true ≡ false = ih .1 e in cc), inr refl)
+    go false ih = ((λ e. ih .0 refl, λ e. refl), inl refl)
+
+-- EVERY LIST THAT BEGINS WITH AN ACCEPTED OPENING
+
+first-opened : (lacks : List ℕ → Bool) (b : List ℕ) → refusal lacks none (record { operation = openPlan; body = b }) ≡ 0
+    → Agrees (fresh (openedRooms (bodyOf (record { operation = openPlan; body = b }))) (openedSettings (bodyOf (record { operation = openPlan; body = b }))))
+    (record { operation = openPlan; body = b } ∷ [])
+unfolding fresh
+first-opened lacks b e =
+    let c : Call = record { operation = openPlan; body = b } in
+    record {
+      is-sound = accepted-sound lacks none c tt e;
+      opening = bodyOf c;
+      opened = refl;
+      rooms = refl;
+      settings = refl;
+      sets = λ n. empty-slots ((roomsOf (openedRooms (bodyOf c))) .sets) n;
+      filters = λ f. refl;
+    }
+
+pub every-list : EveryList
+unfolding after listing
+every-list lacks b cs e =
+    let c : Call = record { operation = openPlan; body = b } in
+    let opened : after lacks none c ≡ some (fresh (openedRooms (bodyOf c)) (openedSettings (bodyOf c))) = rw e in
+    let r = reach lacks (fresh (openedRooms (bodyOf c)) (openedSettings (bodyOf c))) (c ∷ []) cs (first-opened lacks b e) in
+    let s : Sound (r .plan) = r .agrees .is-sound in
+    let exact : ListsExactly (map listed (r .plan .rules)) (λ f. setNamed f (r .plan .rules)) = lists-named (r .plan .rules) (s .order) in
+    let same : (f : Filter) → setNamed f (r .plan .rules) ≡ lastSet f (accepted lacks (c ∷ cs)) = λ f. rw (opened, e) (r .agrees .filters f) in
+    let listed-rising : T (rising (map listed (r .plan .rules))) = rising-listed (r .plan .rules) (s .order) in
+    record {
+      plan = r .plan;
+      carried = rw opened (r .carried);
+      never-plan = rw (opened, e) (r .unplanned);
+      opening = r .agrees .opening;
+      opened = rw (opened, e) (r .agrees .opened);
+      rooms = r .agrees .rooms;
+      settings = r .agrees .settings;
+      sets = λ n. rw (opened, e) (r .agrees .sets n);
+      in-order = listed-rising;
+      filters = λ f n. (λ m. sym (same f) ∙ exact f n .0 m, λ q. exact f n .1 (same f ∙ q));
+      one-listing = λ ls t x. one-list ls (map listed (r .plan .rules)) t listed-rising
+          (λ l m. exact (l .filter) (l .set) .1 (same (l .filter) ∙ x (l .filter) (l .set) .0 m))
+          (λ l m. x (l .filter) (l .set) .1 (sym (same (l .filter)) ∙ exact (l .filter) (l .set) .0 m));
+      is-sound = sound-of (r .plan) s;
+      distinct = distinct-filters (r .plan .rules) (s .order);
+      removable = removable lacks (r .plan) s;
+    }

@@ -1,0 +1,14 @@
+pub mod Tests
+pub mod ListingOrder
+pub mod Largest
+pub mod RuleLists
+pub mod Choice
+pub mod View
+pub mod Stretches
+pub mod ConditionedNumber
+pub mod Soundness
+pub mod Numbers
+pub mod ReadBack
+pub mod Listings
+pub mod History
+pub mod Examples

@@ -1,0 +1,179 @@
+-- The seven calls that open and provision a plan: the checks of each in order, what an accepted one makes, and what a list of calls puts in.
+use Prim.Native.Nat.{ℕ}
+use mathlib.Core.Bool.{Bool, true, false, _&&_, _||_, not}
+use mathlib.Core.List.{List, [], _∷_}
+use mathlib.Core.Option.{Option, none, some}
+use lib.ListN.{length, take, getD}
+use lib.Dec.{leb, ltb, eqb}
+use Rattle.meaning.specs.Basics.{if_then_else_, all, any, isSome, isZero, part, word}
+use Rattle.meaning.specs.Refusals.{CUT, PLAN, ROOM, RANGE, GROUPS, TAKEN, ABSENT, MISFIT, FULL, IN-USE, Line, firstOf}
+use Rattle.meaning.specs.Settings.{Rooms, roomsOf, roomsInRange, settingsInRange, bytesNeeded}
+use Rattle.meaning.specs.Filters.{Filter, filterOf, filterInRange}
+use Rattle.meaning.specs.Rules.{Rule, filterIn, names, hasFilter, insert, rename, without}
+use Rattle.meaning.specs.Actions.{actionsOf, contentInRange}
+use Rattle.meaning.specs.Groups.{groupsHold, fit}
+use Rattle.meaning.specs.Plan.{Plan, roomsIn, held, fresh, withSlot, withRules, fitsHeld}
+use Rattle.meaning.specs.Reads.{overRoom}
+
+-- THE CALLS
+
+-- "calls that open a plan, add, replace or remove a set, or add, change or remove a rule"
+pub data Operation : Type 0 where
+  openPlan addSet replaceSet removeSet addRule changeRule removeRule : Operation
+
+-- a call: what it is to do, and its body, of any length
+pub record Call : Type 0 where
+  pub operation : Operation
+  pub body : List ℕ
+
+-- its kind as a house record
+abbrev pub kindOf : Operation → ℕ
+kindOf openPlan = 0
+kindOf addSet = 1
+kindOf replaceSet = 2
+kindOf removeSet = 3
+kindOf addRule = 4
+kindOf changeRule = 5
+kindOf removeRule = 6
+
+-- "a body whose length the kind fixes", kinds 0 to 9
+unfoldable pub bodyLength : ℕ → ℕ
+bodyLength k = getD (40 ∷ 47 ∷ 47 ∷ 2 ∷ 21 ∷ 21 ∷ 19 ∷ 73 ∷ 2 ∷ 0 ∷ []) k 0
+
+-- CUT: "a record's body is shorter than its kind says"
+abbrev pub isCut : Call → Bool
+isCut c = ltb (length (c .body)) (bodyLength (kindOf (c .operation)))
+
+-- the bytes of the body that its kind says: those behind are not looked at
+abbrev pub bodyOf : Call → List ℕ
+bodyOf c = take (bodyLength (kindOf (c .operation))) (c .body)
+
+-- what stands in a body: "rooms 2+2", and the settings; "number 2", and the content; the filter, and "set 2"
+abbrev pub openedRooms : List ℕ → List ℕ
+openedRooms b = take 4 b
+
+abbrev pub openedSettings : List ℕ → List ℕ
+openedSettings b = part 4 36 b
+
+abbrev pub setNumber : List ℕ → ℕ
+setNumber b = word b 0
+
+abbrev pub contentGiven : List ℕ → List ℕ
+contentGiven b = part 2 45 b
+
+abbrev pub codeGiven : List ℕ → List ℕ
+codeGiven b = take 19 b
+
+abbrev pub setGiven : List ℕ → ℕ
+setGiven b = word b 19
+
+-- THE CHECKS OF EACH, "Order: as numbered"
+
+abbrev pub holdsFilter : Plan → List ℕ → Bool
+holdsFilter p code = any (hasFilter (filterOf code)) (p .rules)
+
+-- "opening checks RANGE before ROOM"; `lacks` tells whether the memory is too small for the rooms asked
+unfoldable pub openingLines : (List ℕ → Bool) → List ℕ → List Line
+openingLines lacks b =
+    (not (roomsInRange (openedRooms b) && settingsInRange (openedSettings b)), RANGE) ∷ (lacks (openedRooms b), ROOM) ∷ []
+
+unfoldable pub addSetLines : Plan → List ℕ → List Line
+addSetLines p b =
+    (overRoom p (setNumber b) || not (contentInRange (contentGiven b)), RANGE)
+    ∷ (not (groupsHold (actionsOf (contentGiven b))), GROUPS)
+    ∷ (isSome (held p (setNumber b)), TAKEN) ∷ []
+
+-- "Replacing a set checks every rule that names it"
+unfoldable pub replaceSetLines : Plan → List ℕ → List Line
+replaceSetLines p b =
+    (overRoom p (setNumber b) || not (contentInRange (contentGiven b)), RANGE)
+    ∷ (not (groupsHold (actionsOf (contentGiven b))), GROUPS)
+    ∷ (not (isSome (held p (setNumber b))), ABSENT)
+    ∷ (not (all (λ (r : Rule). not (names (setNumber b) r) || fit (filterIn r) (actionsOf (contentGiven b))) (p .rules)), MISFIT) ∷ []
+
+-- IN USE: "removing a set that a rule names"
+unfoldable pub removeSetLines : Plan → List ℕ → List Line
+removeSetLines p b =
+    (overRoom p (setNumber b), RANGE)
+    ∷ (not (isSome (held p (setNumber b))), ABSENT)
+    ∷ (any (names (setNumber b)) (p .rules), IN-USE) ∷ []
+
+-- "Adding a rule: TAKEN asks about the filter, ABSENT about the set"; FULL: "the rules held equal the room"
+unfoldable pub addRuleLines : Plan → List ℕ → List Line
+addRuleLines p b =
+    (overRoom p (setGiven b) || not (filterInRange (codeGiven b)), RANGE)
+    ∷ (holdsFilter p (codeGiven b), TAKEN)
+    ∷ (not (isSome (held p (setGiven b))), ABSENT)
+    ∷ (not (fitsHeld (filterOf (codeGiven b)) (held p (setGiven b))), MISFIT)
+    ∷ (eqb (length (p .rules)) ((roomsIn p) .rules), FULL) ∷ []
+
+-- ABSENT: "a named set .., or a filter to change or remove, not there"
+unfoldable pub changeRuleLines : Plan → List ℕ → List Line
+changeRuleLines p b =
+    (overRoom p (setGiven b) || not (filterInRange (codeGiven b)), RANGE)
+    ∷ (not (holdsFilter p (codeGiven b) && isSome (held p (setGiven b))), ABSENT)
+    ∷ (not (fitsHeld (filterOf (codeGiven b)) (held p (setGiven b))), MISFIT) ∷ []
+
+unfoldable pub removeRuleLines : Plan → List ℕ → List Line
+removeRuleLines p b = (not (filterInRange (codeGiven b)), RANGE) ∷ (not (holdsFilter p (codeGiven b)), ABSENT) ∷ []
+
+-- PLAN: "any call but opening: the lent plan memory isn't a sound plan of this build"
+abbrev pub overPlan : Option Plan → (Plan → List Line) → List Line
+overPlan none lines = (true, PLAN) ∷ []
+overPlan (some p) lines = lines p
+
+abbrev pub linesOf : Operation → (List ℕ → Bool) → Option Plan → List ℕ → List Line
+linesOf openPlan lacks s b = openingLines lacks b
+linesOf addSet lacks s b = overPlan s (λ (p : Plan). addSetLines p b)
+linesOf replaceSet lacks s b = overPlan s (λ (p : Plan). replaceSetLines p b)
+linesOf removeSet lacks s b = overPlan s (λ (p : Plan). removeSetLines p b)
+linesOf addRule lacks s b = overPlan s (λ (p : Plan). addRuleLines p b)
+linesOf changeRule lacks s b = overPlan s (λ (p : Plan). changeRuleLines p b)
+linesOf removeRule lacks s b = overPlan s (λ (p : Plan). removeRuleLines p b)
+
+-- the number a call is answered with: 0 where it is accepted
+unfoldable pub refusal : (List ℕ → Bool) → Option Plan → Call → ℕ
+refusal lacks s c = firstOf ((isCut c, CUT) ∷ linesOf (c .operation) lacks s (bodyOf c))
+
+-- ROOM at opening: "plan memory under 64 bytes + 48 a set + 24 a rule of the rooms asked"
+abbrev pub lacksBytes : ℕ → List ℕ → Bool
+lacksBytes size rooms = ltb size (bytesNeeded (roomsOf rooms))
+
+-- WHAT AN ACCEPTED CALL MAKES
+
+abbrev pub onPlan : Option Plan → (Plan → Plan) → Option Plan
+onPlan none change = none
+onPlan (some p) change = some (change p)
+
+abbrev pub ruleGiven : List ℕ → Rule
+ruleGiven b = record { code = codeGiven b; set = setGiven b }
+
+abbrev pub made : Operation → Option Plan → List ℕ → Option Plan
+made openPlan s b = some (fresh (openedRooms b) (openedSettings b))
+made addSet s b = onPlan s (withSlot (setNumber b) (some (contentGiven b)))
+made replaceSet s b = onPlan s (withSlot (setNumber b) (some (contentGiven b)))
+made removeSet s b = onPlan s (withSlot (setNumber b) none)
+made addRule s b = onPlan s (λ (p : Plan). withRules (insert (ruleGiven b) (p .rules)) p)
+made changeRule s b = onPlan s (λ (p : Plan). withRules (rename (filterOf (codeGiven b)) (setGiven b) (p .rules)) p)
+made removeRule s b = onPlan s (λ (p : Plan). withRules (without (filterOf (codeGiven b)) (p .rules)) p)
+
+-- WHAT WAS PUT IN, by carrying a plan through the calls. Nothing is in until an opening is accepted.
+
+abbrev pub isAccepted : (List ℕ → Bool) → Option Plan → Call → Bool
+isAccepted lacks s c = isZero (refusal lacks s c)
+
+-- a refused call changes nothing
+unfoldable pub after : (List ℕ → Bool) → Option Plan → Call → Option Plan
+after lacks s c = if isAccepted lacks s c then made (c .operation) s (bodyOf c) else s
+
+abbrev pub putInFrom : (List ℕ → Bool) → Option Plan → List Call → Option Plan
+putInFrom lacks s [] = s
+putInFrom lacks s (c ∷ cs) = putInFrom lacks (after lacks s c) cs
+
+abbrev pub putIn : (List ℕ → Bool) → List Call → Option Plan
+putIn lacks cs = putInFrom lacks none cs
+
+-- the number of each call
+abbrev pub refusalsFrom : (List ℕ → Bool) → Option Plan → List Call → List ℕ
+refusalsFrom lacks s [] = []
+refusalsFrom lacks s (c ∷ cs) = refusal lacks s c ∷ refusalsFrom lacks (after lacks s c) cs

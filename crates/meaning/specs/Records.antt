@@ -1,0 +1,128 @@
+-- Document 01, "House records": the text that a file of records gives.
+use Prim.Native.Nat.{ℕ, zero, suc, _+_, _/_, _%_}
+use mathlib.Core.Bool.{Bool, true, false, _||_}
+use mathlib.Core.List.{List, [], _∷_, _++_, map}
+use mathlib.Core.Option.{Option, none, some}
+use lib.ListN.{length, take, drop, getD}
+use lib.Dec.{leb, ltb, eqb}
+use Rattle.meaning.specs.Basics.{if_then_else_, isZero, word}
+use Rattle.meaning.specs.Refusals.{CUT, KIND, PLAN}
+use Rattle.meaning.specs.Settings.{Rooms, roomsOf}
+use Rattle.meaning.specs.Filters.{Filter}
+use Rattle.meaning.specs.Plan.{Plan}
+use Rattle.meaning.specs.Answer.{Answer, answer}
+use Rattle.meaning.specs.Reads.{Count, referrerCount, Listed, listing}
+use Rattle.meaning.specs.Calls.{Operation, openPlan, addSet, replaceSet, removeSet, addRule, changeRule, removeRule, Call, bodyLength, refusal, after}
+
+-- TEXT, as ASCII bytes
+
+-- "Numbers are written in decimal": the digits of n in front of those in hand; `fuel` bounds how many
+abbrev pub decimalFrom : ℕ → ℕ → List ℕ → List ℕ
+decimalFrom zero n ds = ds
+decimalFrom (suc fuel) n ds = elim (ltb n 10) [ true ↦ (48 + n) ∷ ds | false ↦ decimalFrom fuel (n / 10) ((48 + n % 10) ∷ ds) ]
+
+unfoldable pub decimal : ℕ → List ℕ
+decimal n = decimalFrom (suc n) n []
+
+-- "written 0 to 9 and a to f"
+unfoldable pub digitText : ℕ → ℕ
+digitText d = if ltb d 10 then 48 + d else 87 + d
+
+-- "digit strings as digits, `-` for none"
+abbrev pub digitsText : List ℕ → List ℕ
+digitsText [] = 45 ∷ []
+digitsText (d ∷ ds) = map digitText (d ∷ ds)
+
+-- "`*` for a wildcard"
+abbrev pub prefixText : List ℕ → List ℕ
+prefixText [] = 42 ∷ []
+prefixText (d ∷ ds) = map digitText (d ∷ ds)
+
+abbrev pub lengthText : ℕ → List ℕ
+lengthText zero = 42 ∷ []
+lengthText (suc l) = decimal (suc l)
+
+-- words with a space between two, and a newline at the end
+abbrev pub line : List (List ℕ) → List ℕ
+line [] = 10 ∷ []
+line (w ∷ []) = w ++ (10 ∷ [])
+line (w ∷ v ∷ ws) = w ++ (32 ∷ line (v ∷ ws))
+
+-- THE LINES
+
+-- `ok`
+unfoldable pub okLine : List ℕ
+okLine = line ((111 ∷ 107 ∷ []) ∷ [])
+
+-- "A refusal writes `no` and its number"
+unfoldable pub noLine : ℕ → List ℕ
+noLine n = line ((110 ∷ 111 ∷ []) ∷ decimal n ∷ [])
+
+-- "Kinds 0 to 6 write `ok`"
+abbrev pub acceptedLine : ℕ → List ℕ
+acceptedLine zero = okLine
+acceptedLine (suc r) = noLine (suc r)
+
+-- "A number line is outcome, class, response, action count, digits"
+unfoldable pub numberLine : Answer → List ℕ
+numberLine a =
+    if isZero (a .refusal)
+    then line (decimal (a .outcome) ∷ decimal (a .class) ∷ decimal (a .response) ∷ decimal (a .count) ∷ digitsText (a .digits) ∷ [])
+    else noLine (a .refusal)
+
+-- "Kind 8 writes `refs N`"
+unfoldable pub refsLine : Count → List ℕ
+refsLine c = if isZero (c .refusal) then line ((114 ∷ 101 ∷ 102 ∷ 115 ∷ []) ∷ decimal (c .number) ∷ []) else noLine (c .refusal)
+
+-- "A listed rule is class, prefix, length and set"
+unfoldable pub listedLine : Listed → List ℕ
+listedLine l = line (decimal (l .filter .class) ∷ prefixText (l .filter .prefix) ∷ lengthText (l .filter .len) ∷ decimal (l .set) ∷ [])
+
+-- "`end` gives how many"
+unfoldable pub endLine : ℕ → List ℕ
+endLine n = line ((101 ∷ 110 ∷ 100 ∷ []) ∷ decimal n ∷ [])
+
+abbrev pub listedLines : List Listed → List ℕ
+listedLines [] = []
+listedLines (l ∷ ls) = listedLine l ++ listedLines ls
+
+abbrev pub listText : Option Plan → List ℕ
+listText none = noLine PLAN
+listText (some p) = listedLines (listing p) ++ endLine (length (listing p))
+
+-- A RUN
+
+-- "A program run uses at most 64 sets and 512 rules (more is ROOM there)"
+unfoldable pub lacksProgramRoom : List ℕ → Bool
+lacksProgramRoom rooms = ltb 64 ((roomsOf rooms) .sets) || ltb 512 ((roomsOf rooms) .rules)
+
+-- kinds 0 to 6 are calls
+unfoldable pub operationOf : ℕ → Operation
+operationOf k = getD (openPlan ∷ addSet ∷ replaceSet ∷ removeSet ∷ addRule ∷ changeRule ∷ []) k removeRule
+
+abbrev pub callOf : ℕ → List ℕ → Call
+callOf k body = record { operation = operationOf k; body = body }
+
+-- what a record writes
+unfoldable pub recordText : Option Plan → ℕ → List ℕ → List ℕ
+recordText s k body =
+    if leb k 6 then acceptedLine (refusal lacksProgramRoom s (callOf k body)) else
+    if eqb k 7 then numberLine (answer s 35 body) else
+    if eqb k 8 then refsLine (referrerCount s (word body 0)) else listText s
+
+-- the plan behind a record
+unfoldable pub recordPlan : Option Plan → ℕ → List ℕ → Option Plan
+recordPlan s k body = if leb k 6 then after lacksProgramRoom s (callOf k body) else s
+
+-- "One byte of kind, then a body"; "KIND before CUT"; "After KIND or CUT reading ends"; `fuel` bounds how many records
+abbrev pub textFrom : ℕ → Option Plan → List ℕ → List ℕ
+textFrom zero s bytes = []
+textFrom (suc fuel) s [] = []
+textFrom (suc fuel) s (k ∷ bytes) =
+    let rest : List ℕ = textFrom fuel (recordPlan s k (take (bodyLength k) bytes)) (drop (bodyLength k) bytes) in
+    if ltb 9 k then noLine KIND else
+    if ltb (length bytes) (bodyLength k) then noLine CUT else recordText s k (take (bodyLength k) bytes) ++ rest
+
+-- the text of a whole file; "Plan memory isn't sound until an opening is accepted"; a record takes a byte at least
+unfoldable pub fileText : List ℕ → List ℕ
+fileText bytes = textFrom (length bytes) none bytes

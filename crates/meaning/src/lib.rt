@@ -1,0 +1,170 @@
+// The types that promises name. What each means is defined in specs/: document 01's numbers and values for every case.
+ghost use mathlib.Core.Path.{_≡_};
+ghost use Rattle.meaning.specs.Answers.{classOf, outgoingOf, codeOf, numberOfRefusal};
+
+// A class of numbers: INTL, NATL, UNKNOWN and three house classes.
+pub struct Class(pub u8);
+
+// What a byte is as a class.
+pub enum ClassOf {
+    Known(Class),
+    Unknown,
+}
+
+// What a byte is as an outgoing class.
+pub enum OutgoingOf {
+    Given(Class),
+    AsIncoming,
+    Unknown,
+}
+
+impl Class {
+    pub const INTL: Class = Class(0);
+
+    pub const NATL: Class = Class(1);
+
+    pub const UNKNOWN: Class = Class(2);
+
+    pub const HOUSE3: Class = Class(3);
+
+    pub const HOUSE4: Class = Class(4);
+
+    pub const HOUSE5: Class = Class(5);
+
+    // The class of a byte; every byte but 0 to 5 is refused.
+    pub fn of(b: u8) -> ClassOf
+        ensures { λ r. ⌜ r ≡ classOf b ⌝ }
+    {
+        match b {
+            0 => ClassOf::Known(Class::INTL),
+            1 => ClassOf::Known(Class::NATL),
+            2 => ClassOf::Known(Class::UNKNOWN),
+            3 => ClassOf::Known(Class::HOUSE3),
+            4 => ClassOf::Known(Class::HOUSE4),
+            5 => ClassOf::Known(Class::HOUSE5),
+            _ => ClassOf::Unknown,
+        }
+    }
+
+    // The outgoing class of a byte: a class, or 255 for "as incoming".
+    pub fn outgoing(b: u8) -> OutgoingOf
+        ensures { λ r. ⌜ r ≡ outgoingOf b ⌝ }
+    {
+        match b {
+            0 => OutgoingOf::Given(Class::INTL),
+            1 => OutgoingOf::Given(Class::NATL),
+            2 => OutgoingOf::Given(Class::UNKNOWN),
+            3 => OutgoingOf::Given(Class::HOUSE3),
+            4 => OutgoingOf::Given(Class::HOUSE4),
+            5 => OutgoingOf::Given(Class::HOUSE5),
+            255 => OutgoingOf::AsIncoming,
+            _ => OutgoingOf::Unknown,
+        }
+    }
+
+    pub fn code(self) -> u8
+        ensures { λ r. ⌜ r ≡ codeOf self ⌝ }
+    {
+        self.0
+    }
+}
+
+// The number of a set.
+pub struct SetNumber(pub u16);
+
+// A rule's place in the listing.
+pub struct RulePlace(pub u16);
+
+// Document 01's refusals.
+pub enum Refusal {
+    Cut,
+    Kind,
+    Plan,
+    Room,
+    Range,
+    Groups,
+    Taken,
+    Absent,
+    Misfit,
+    Full,
+    InUse,
+    Short,
+    Long,
+}
+
+impl Refusal {
+    // Document 01's number.
+    pub fn number(self) -> u8
+        ensures { λ r. ⌜ r ≡ numberOfRefusal self ⌝ }
+    {
+        match self {
+            Refusal::Cut => 1,
+            Refusal::Kind => 2,
+            Refusal::Plan => 3,
+            Refusal::Room => 4,
+            Refusal::Range => 5,
+            Refusal::Groups => 6,
+            Refusal::Taken => 7,
+            Refusal::Absent => 8,
+            Refusal::Misfit => 9,
+            Refusal::Full => 10,
+            Refusal::InUse => 11,
+            Refusal::Short => 12,
+            Refusal::Long => 13,
+        }
+    }
+}
+
+// What opening and provisioning answer.
+pub enum Provisioned {
+    Accepted,
+    Refused(Refusal),
+}
+
+// What a call that writes answers: how many bytes.
+pub enum Written {
+    Bytes(usize),
+    Refused(Refusal),
+}
+
+// What a call that counts answers.
+pub enum Counted {
+    Rules(usize),
+    Refused(Refusal),
+}
+
+// The rule chosen for a number.
+pub enum Chosen {
+    At(RulePlace),
+    NoRule,
+}
+
+// Where a filter stands in the listing, or where adding would put it.
+pub enum FilterPlace {
+    Held(RulePlace),
+    Absent(RulePlace),
+}
+
+// The listing order of two filters.
+pub enum Order {
+    Before,
+    Same,
+    After,
+}
+
+// The answer to a number. The digits themselves stand at the front of the lent buffer.
+pub struct Answered {
+    pub refusal: u8,
+    pub outcome: u8,
+    pub class: u8,
+    pub response: u8,
+    pub count: u8,
+    pub actions: [u8; 8],
+    pub digits: usize,
+}
+
+// A stretch of the incoming number: where it starts, and how many digits it has.
+pub struct Span {
+    pub start: usize,
+    pub count: usize,
+}

@@ -1,0 +1,17 @@
+//! The second implementation of the numbering plan processor: a test
+//! instrument, written from the papers alone (see README.md).
+
+pub mod bodies;
+pub mod calls;
+pub mod generate;
+pub mod layout;
+pub mod plan;
+pub mod process;
+pub mod reached;
+pub mod records;
+pub mod rules;
+pub mod script;
+pub mod text;
+
+#[cfg(test)]
+mod tests;

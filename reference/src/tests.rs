@@ -1,0 +1,9 @@
+//! The tests of the second implementation.
+
+mod examples;
+mod generated;
+mod marked;
+mod memory;
+mod readings;
+mod script;
+mod support;
