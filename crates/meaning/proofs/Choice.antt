@@ -3,17 +3,17 @@ use Prim.Native.Nat.{ℕ, zero, suc, _+_, _*_, _≤_, _<_}
 use mathlib.Core.Path.{_≡_, refl, ap, sym, _∙_, subst}
 use mathlib.Core.Logic.{_≢_, _⊎_, inl, inr}
 use mathlib.Core.Bool.{Bool, true, false, _&&_}
-use mathlib.Core.List.{List, [], _∷_, map, List·Memᴰ}
+use mathlib.Core.List.{List, [], _∷_, map, List·Memᴰ, List·Memᴰ·head, List·Memᴰ·tail}
 use mathlib.Core.Option.{Option, none, some}
 use native.Mathlib.Omega.{arith}
 use lib.ListN.{length, take, getElem?}
 use lib.Dec.{T, eqb, ltb, eqb→eq}
 use borrow.Author.Tests.{ltb-true, ltb-false}
-use Rattle.meaning.specs.Basics.{if_then_else_, beginsWith}
+use Rattle.meaning.specs.Basics.{if_then_else_, any, isSome, beginsWith}
 use Rattle.meaning.specs.Filters.{Filter, lengthFits, fitsNumber, stated, rank}
 use Rattle.meaning.specs.Rules.{Rule, filterIn, weight, firstLargest, chosenPlace, ruleAt, chosen, inOrder}
 use Rattle.meaning.specs.Choice.{LessSpecific, shorterPrefix, wildcardLength, IsChoice, NoneFits}
-use Rattle.meaning.proofs.Tests.{is-true, true-is, and-left, and-right}
+use Rattle.meaning.proofs.Tests.{is-true, true-is, and-left, and-right, any-mem}
 use Rattle.meaning.proofs.Largest.{AtMost, Largest, Found, first-largest, place-mem}
 use Rattle.meaning.proofs.RuleLists.{one-rule}
 
@@ -195,3 +195,23 @@ module _ (class : ℕ) (ds : List ℕ) where
       go (noRule n) = none-chosen ss q (λ s m. n s (g s m))
       go (theRule r b) =
           chosen-is ss q r (record { held = f r (b .held); fits = b .fits; others = λ s m t. b .others s (g s m) t })
+
+  -- a rule is chosen exactly if some filter fits, in whatever order the rules stand
+  pub chosen-exactly : (rs : List Rule) → isSome (chosen class ds rs) ≡ any (λ (r : Rule). fitsNumber (filterIn r) class ds) rs
+  unfolding chosen chosenPlace weigh
+  chosen-exactly rs = go (first-largest weigh rs)
+    where
+      fits : Rule → Bool
+      fits r = fitsNumber (filterIn r) class ds
+
+      none-fits : (xs : List Rule) → AtMost weigh 0 xs → any fits xs ≡ false
+      none-fits [] h = refl
+      none-fits (x ∷ xs) h = rw (weight-none x (h x (List·Memᴰ·head refl)), none-fits xs (λ y m. h y (List·Memᴰ·tail m)))
+
+      go : ((firstLargest (map weigh rs) ≡ none) × AtMost weigh 0 rs) ⊎ ((k : ℕ) × (firstLargest (map weigh rs) ≡ some k) × Found weigh rs k)
+          → isSome (ruleAt rs (firstLargest (map weigh rs))) ≡ any fits rs
+      go (inl t) = rw (t .0, none-fits rs (t .1))
+      go (inr t) =
+          let found = t .2 in
+          let m : List·Memᴰ (found .x) rs = place-mem rs (t .0) (found .x) (found .largest .place) in
+          rw (t .1, found .largest .place) (sym (is-true (any fits rs) (any-mem fits rs m (weight-some (found .x) (found .above)))))

@@ -13,7 +13,7 @@ use Rattle.meaning.specs.Basics.{if_then_else_, all, any, allOf, isEmpty
 use Rattle.meaning.specs.Actions.{CC, AC, SN, DN, ZN, CA, isIGN, isX, isFPFX, isCCDEF, valueOf, setsValue, mostOf, caInRange}
 use Rattle.meaning.specs.Groups.{isSet, oneFormat, formatStands}
 use Rattle.meaning.specs.Conditioning.{Stretch, stretchOf, digitsAt, valueFrom, conditionedFrom}
-use Rattle.meaning.specs.Stretches.{stretchAt, Covers, covered, fixed, ignored, matched, allLeft, none}
+use Rattle.meaning.specs.Stretches.{stretchAt, Covers, covered, fixed, ignored, matched, allLeft, takesNone}
 use Rattle.meaning.proofs.Tests.{is-true, true-is, is-false, false-is, and-left, and-right, or-other, or-left-false, or-right-false, allBelow, at-below}
 use Rattle.meaning.proofs.Stretches.{ranged, ranged-below, part-length}
 
@@ -67,7 +67,7 @@ module _ (read : ℕ → Stretch) (prefix ds : List ℕ) where
   inside-digits (ignored c h rest) = omega (arith, h)
   inside-digits (matched c e p h rest) = omega (arith, h)
   inside-digits (allLeft c e h rest) = omega (arith, h)
-  inside-digits (none c rest) = inside-digits rest
+  inside-digits (takesNone c rest) = inside-digits rest
 
   -- one action: what it takes, the actions behind it, and that AC, SN, DN and ZN are taken from the number
   record Step (at : ℕ) (a : CA) (xs : List CA) : Type 0 where
@@ -102,7 +102,7 @@ module _ (read : ℕ → Stretch) (prefix ds : List ℕ) where
   step {at} {a} r (allLeft c e h rest) =
       let whole : at + (length ds - at) ≡ length ds = omega arith in
       record { takes = length ds - at; inside = omega arith; rest = rw whole rest; own = λ v lo hi q. (reads a v at (length ds - at) q e, omega arith) }
-  step {at} {a} r (none c rest) =
+  step {at} {a} r (takesNone c rest) =
       let here : at + 0 ≡ at = omega arith in
       record {
         takes = 0;
@@ -177,7 +177,7 @@ module _ (read : ℕ → Stretch) (prefix ds : List ℕ) where
           read-cc q two lo hi (matched c e p h rest) = absurd (omega (arith, eqb→eq (a .code) 14 c))
           read-cc q two lo hi (allLeft c e h rest) =
               absurd (omega (arith, leb→le 11 (a .code) (and-left (leb 11 (a .code)) (leb (a .code) 13) c)))
-          read-cc q two lo hi (none c rest) = absurd (omega (arith, eqb→eq (a .code) 15 c))
+          read-cc q two lo hi (takesNone c rest) = absurd (omega (arith, eqb→eq (a .code) 15 c))
 
       go : (b : Bool) → setsValue CC a ≡ b → Covers read prefix ds at (a ∷ xs) → T (b || isSet CC xs)
           → ((b : ℕ) → Covers read prefix ds b xs → T (isSet CC xs) → (1 ≤ read CC .count) × (read CC .count ≤ 3) × (read CC .start + read CC .count ≤ length ds))

@@ -3,9 +3,10 @@ use Prim.Native.Nat.{ℕ}
 use mathlib.Core.Path.{_≡_, refl, ap₂}
 use mathlib.Core.Bool.{Bool, true, false, _&&_}
 use mathlib.Core.List.{List, [], _∷_, List·Memᴰ, List·Memᴰ·head, List·Memᴰ·tail}
+use mathlib.Core.Option.{Option, none, some}
 use lib.Dec.{T, eqb, eqb→eq}
 use Rattle.meaning.specs.Basics.{all}
-use Rattle.meaning.specs.Settings.{roomsOf, roomsInRange, bytesNeeded, settingsOf, settingsInRange, lookupOf, entityInRange, routeInRange, lookupInRange, numberOf, numberInRange, dialledInRange}
+use Rattle.meaning.specs.Settings.{roomsOf, roomsInRange, bytesNeeded, settingsOf, settingsInRange, lookupOf, entityInRange, asdOrGrnInRange, lookupInRange, numberOf, numberInRange, dialledInRange}
 use Rattle.meaning.specs.Filters.{filterOf, filterInRange, fitsNumber, rank, compareFilters}
 use Rattle.meaning.specs.Rules.{firstLargest, weight, chosenPlace, chosen}
 use Rattle.meaning.specs.Actions.{valueOf, actionsOf, mostOf, caInRange, contentInRange}
@@ -15,8 +16,8 @@ use Rattle.meaning.specs.Services.{atStart, responded, inprtg, rnSet, cd
 use Rattle.meaning.specs.Plan.{fresh, withSlot, withRules}
 use Rattle.meaning.specs.Answer.{refused, unserved, served, outgoingClass, formatted, afterServices, answerBy, answerOf}
 use Rattle.meaning.specs.Reads.{conditionedBy}
-use Rattle.meaning.specs.Calls.{bodyLength, openingLines, addSetLines, addRuleLines, refusal, after}
-use Rattle.meaning.specs.Examples.{Row, shown, table}
+use Rattle.meaning.specs.Calls.{bodyLength, openingLines, addSetLines, addRuleLines, refusal, lacksBytes, refusalsFrom, after}
+use Rattle.meaning.specs.Examples.{Row, shown, table, Holds}
 
 sameList : List ℕ → List ℕ → Bool
 sameList [] [] = true
@@ -41,17 +42,23 @@ same-list (x ∷ xs) (y ∷ ys) t =
     ap₂ _∷_ (eqb→eq x y (and-left (eqb x y) (sameList xs ys) t)) (same-list xs ys (and-right (eqb x y) (sameList xs ys) t))
 
 rowHolds : Row → Bool
-rowHolds r = sameList (shown (r .query) (r .calls)) (r .result)
+rowHolds r = sameList (refusalsFrom (lacksBytes 640) none (r .calls)) (r .numbers) && sameList (shown (r .query) (r .calls)) (r .result)
 
-every-row : (rs : List Row) → T (all rowHolds rs) → (r : Row) → List·Memᴰ r rs → shown (r .query) (r .calls) ≡ r .result
+row-holds : (r : Row) → T (rowHolds r) → Holds r
 unfolding rowHolds
-every-row (x ∷ xs) t r (List·Memᴰ·head e) = rw e (same-list _ _ (and-left (rowHolds x) (all rowHolds xs) t))
+row-holds r t =
+    let ns = sameList (refusalsFrom (lacksBytes 640) none (r .calls)) (r .numbers) in
+    let rs = sameList (shown (r .query) (r .calls)) (r .result) in
+    record { numbers = same-list _ _ (and-left ns rs t); result = same-list _ _ (and-right ns rs t) }
+
+every-row : (rs : List Row) → T (all rowHolds rs) → (r : Row) → List·Memᴰ r rs → Holds r
+every-row (x ∷ xs) t r (List·Memᴰ·head e) = rw e (row-holds x (and-left (rowHolds x) (all rowHolds xs) t))
 every-row (x ∷ xs) t r (List·Memᴰ·tail m) = every-row xs (and-right (rowHolds x) (all rowHolds xs) t) r m
 
 table-test : T (all rowHolds table)
-unfolding roomsOf roomsInRange bytesNeeded settingsOf settingsInRange lookupOf entityInRange routeInRange lookupInRange numberOf numberInRange dialledInRange filterOf filterInRange fitsNumber rank compareFilters firstLargest weight chosenPlace chosen valueOf actionsOf mostOf caInRange contentInRange nothingWithoutCA oneFormat formatStands fpfxFirst oneXAction precedence isBacked formattingBacked groupsHold fpfxMeetsPrefix casFit fit stretchOf valueFrom conditionedFrom atStart responded inprtg rnSet cdpnnp asdlkup grnlkup cdial carryOut eightPlaces valueToSend fresh withSlot withRules refused unserved served outgoingClass formatted afterServices answerBy answerOf conditionedBy bodyLength openingLines addSetLines addRuleLines refusal after sameList rowHolds table
+unfolding roomsOf roomsInRange bytesNeeded settingsOf settingsInRange lookupOf entityInRange asdOrGrnInRange lookupInRange numberOf numberInRange dialledInRange filterOf filterInRange fitsNumber rank compareFilters firstLargest weight chosenPlace chosen valueOf actionsOf mostOf caInRange contentInRange nothingWithoutCA oneFormat formatStands fpfxFirst oneXAction precedence isBacked formattingBacked groupsHold fpfxMeetsPrefix casFit fit stretchOf valueFrom conditionedFrom atStart responded inprtg rnSet cdpnnp asdlkup grnlkup cdial carryOut eightPlaces valueToSend fresh withSlot withRules refused unserved served outgoingClass formatted afterServices answerBy answerOf conditionedBy bodyLength openingLines addSetLines addRuleLines refusal after sameList rowHolds table
 table-test = tt
 
--- every row of the table: what is asked is answered with the row's result
-pub marked-examples : (r : Row) → List·Memᴰ r table → shown (r .query) (r .calls) ≡ r .result
+-- every row of the table holds
+pub marked-examples : (r : Row) → List·Memᴰ r table → Holds r
 marked-examples = every-row table table-test

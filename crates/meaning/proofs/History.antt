@@ -18,9 +18,9 @@ use Rattle.meaning.specs.Plan.{Plan, held, referrers, fresh, withSlot, w
 use Rattle.meaning.specs.Reads.{overRoom, Listed, listing, listed}
 use Rattle.meaning.specs.Calls.{Operation, openPlan, addSet, replaceSet, removeSet, addRule, changeRule, removeRule, Call, isCut, bodyOf, openedRooms, openedSettings, setNumber, openingLines, addSetLines, replaceSetLines, removeSetLines, addRuleLines, changeRuleLines, removeRuleLines, linesOf, refusal, made, isAccepted, after, putInFrom, putIn, refusalsFrom}
 use Rattle.meaning.specs.LookBack.{acceptedFrom, accepted, openingAfter, lastOpening, contentAfter, lastContent, setAfter, lastSet}
-use Rattle.meaning.specs.History.{rising, removal, PutIn, EveryList, ListsExactly}
+use Rattle.meaning.specs.History.{rising, removal, PutIn, EveryList, FromOpening, EveryOpenedList, ListsExactly}
 use Rattle.meaning.proofs.Tests.{is-true, is-false, true-is, false-is, and-left, and-right, and-both, none-counted}
-use Rattle.meaning.proofs.Soundness.{Sound, sound-of, SoundIf, accepted-passed, accepted-sound}
+use Rattle.meaning.proofs.Soundness.{Sound, sound-of, SoundIf, accepted-passed, accepted-sound, names-held}
 use Rattle.meaning.proofs.ReadBack.{heldIn, setIn, ReadsBack, reads-back, empty-slots}
 use Rattle.meaning.proofs.Listings.{rising-listed, one-list, lists-named, distinct-filters}
 
@@ -59,6 +59,34 @@ record Agrees (p : Plan) (past : List Call) : Type 0 where
   settings : p .settings ≡ openedSettings opening
   sets : (n : ℕ) → held p n ≡ lastContent n past
   filters : (f : Filter) → setNamed f (p .rules) ≡ lastSet f past
+
+-- a refused call changes nothing
+after-refused : (lacks : List ℕ → Bool) (s : Option Plan) (c : Call) → isAccepted lacks s c ≡ false → after lacks s c ≡ s
+unfolding after
+after-refused lacks s c e = rw e
+
+-- where nothing is in, no call but an opening is accepted
+abbrev isOpening : Operation → Bool
+isOpening openPlan = true
+isOpening addSet = false
+isOpening replaceSet = false
+isOpening removeSet = false
+isOpening addRule = false
+isOpening changeRule = false
+isOpening removeRule = false
+
+lines-none : (o : Operation) (lacks : List ℕ → Bool) (b : List ℕ) → isOpening o ≡ false → firstOf (linesOf o lacks none b) ≡ PLAN
+lines-none openPlan lacks b e = absurd (let z : _≡_ {A = ℕ} 0 1 = cc in omega arith)
+lines-none addSet lacks b e = refl
+lines-none replaceSet lacks b e = refl
+lines-none removeSet lacks b e = refl
+lines-none addRule lacks b e = refl
+lines-none changeRule lacks b e = refl
+lines-none removeRule lacks b e = refl
+
+refused-none : (lacks : List ℕ → Bool) (o : Operation) (b : List ℕ) → isOpening o ≡ false → refusal lacks none (record { operation = o; body = b }) ≡ 0 → ⊥
+refused-none lacks o b e q =
+    omega (arith, accepted-passed lacks none (record { operation = o; body = b }) q .checks, lines-none o lacks (bodyOf (record { operation = o; body = b })) e)
 
 -- the opening in force after an accepted call
 record Opened (p : Plan) (o : Operation) (b : List ℕ) (before : Option (List ℕ)) : Type 0 where
@@ -158,49 +186,94 @@ removable lacks p s b u t =
     go true ih = ((λ e. absurd (omega (arith, e)), λ e. let z : true ≡ false = ih .1 e in cc), inr refl)
     go false ih = ((λ e. ih .0 refl, λ e. refl), inl refl)
 
--- EVERY LIST THAT BEGINS WITH AN ACCEPTED OPENING
+-- EVERY LIST
 
-first-opened : (lacks : List ℕ → Bool) (b : List ℕ) → refusal lacks none (record { operation = openPlan; body = b }) ≡ 0
-    → Agrees (fresh (openedRooms (bodyOf (record { operation = openPlan; body = b }))) (openedSettings (bodyOf (record { operation = openPlan; body = b }))))
-    (record { operation = openPlan; body = b } ∷ [])
-unfolding fresh
-first-opened lacks b e =
-    let c : Call = record { operation = openPlan; body = b } in
+-- what agrees with the calls looked back on is as the claim says
+agreed : (lacks : List ℕ → Bool) (cs : List Call) (p : Plan) → putIn lacks cs ≡ some p → Agrees p (accepted lacks cs) → PutIn lacks cs
+unfolding listing
+agreed lacks cs p e a =
+    let s : Sound p = a .is-sound in
+    let exact : ListsExactly (map listed (p .rules)) (λ f. setNamed f (p .rules)) = lists-named (p .rules) (s .order) in
+    let listed-rising : T (rising (map listed (p .rules))) = rising-listed (p .rules) (s .order) in
     record {
-      is-sound = accepted-sound lacks none c tt e;
-      opening = bodyOf c;
-      opened = refl;
-      rooms = refl;
-      settings = refl;
-      sets = λ n. empty-slots ((roomsOf (openedRooms (bodyOf c))) .sets) n;
-      filters = λ f. refl;
+      plan = p;
+      carried = e;
+      opening = a .opening;
+      opened = a .opened;
+      rooms = a .rooms;
+      settings = a .settings;
+      sets = a .sets;
+      in-order = listed-rising;
+      filters = λ f n. (λ m. sym (a .filters f) ∙ exact f n .0 m, λ q. exact f n .1 (a .filters f ∙ q));
+      one-listing = λ ls t x. one-list ls (map listed (p .rules)) t listed-rising
+          (λ l m. exact (l .filter) (l .set) .1 (a .filters (l .filter) ∙ x (l .filter) (l .set) .0 m))
+          (λ l m. x (l .filter) (l .set) .1 (sym (a .filters (l .filter)) ∙ exact (l .filter) (l .set) .0 m));
+      is-sound = sound-of p s;
+      distinct = distinct-filters (p .rules) (s .order);
+      names-held = names-held p s;
+      removable = removable lacks p s;
     }
 
+-- the first accepted call is an opening
+first : (lacks : List ℕ → Bool) (o : Operation) (b : List ℕ) → refusal lacks none (record { operation = o; body = b }) ≡ 0
+    → (p : Plan) × (made o none (bodyOf (record { operation = o; body = b })) ≡ some p) × Agrees p (record { operation = o; body = b } ∷ [])
+unfolding fresh refusal
+first lacks openPlan b e =
+    let c : Call = record { operation = openPlan; body = b } in (
+      _,
+      refl,
+      record {
+        is-sound = accepted-sound lacks none c tt e;
+        opening = bodyOf c;
+        opened = refl;
+        rooms = refl;
+        settings = refl;
+        sets = λ n. empty-slots ((roomsOf (openedRooms (bodyOf c))) .sets) n;
+        filters = λ f. refl;
+      },
+    )
+first lacks addSet b e = absurd (refused-none lacks addSet b refl e)
+first lacks replaceSet b e = absurd (refused-none lacks replaceSet b refl e)
+first lacks removeSet b e = absurd (refused-none lacks removeSet b refl e)
+first lacks addRule b e = absurd (refused-none lacks addRule b refl e)
+first lacks changeRule b e = absurd (refused-none lacks changeRule b refl e)
+first lacks removeRule b e = absurd (refused-none lacks removeRule b refl e)
+
+after-first : (lacks : List ℕ → Bool) (c : Call) → refusal lacks none c ≡ 0 → (p : Plan) × (after lacks none c ≡ some p) × Agrees p (c ∷ [])
+unfolding after
+after-first lacks c e = let f = first lacks (c .operation) (c .body) e in (f .0, rw e (f .1), f .2)
+
+from-none : (lacks : List ℕ → Bool) (cs : List Call)
+    → ((putIn lacks cs ≡ none) × (accepted lacks cs ≡ [])) ⊎ ((p : Plan) × (putIn lacks cs ≡ some p) × Agrees p (accepted lacks cs))
+from-none lacks [] = inl (refl, refl)
+from-none lacks (c ∷ cs) = go (isAccepted lacks none c) refl (from-none lacks cs)
+  where
+    go : (t : Bool) → isAccepted lacks none c ≡ t
+        → ((putIn lacks cs ≡ none) × (accepted lacks cs ≡ [])) ⊎ ((p : Plan) × (putIn lacks cs ≡ some p) × Agrees p (accepted lacks cs))
+        → ((putIn lacks (c ∷ cs) ≡ none) × (accepted lacks (c ∷ cs) ≡ [])) ⊎ ((p : Plan) × (putIn lacks (c ∷ cs) ≡ some p) × Agrees p (accepted lacks (c ∷ cs)))
+    go true e ih =
+        let f = after-first lacks c (eqb-true (refusal lacks none c) 0 e) in
+        let r = reach lacks (f .0) (c ∷ []) cs (f .2) in
+        inr (r .plan, rw (f .1) (r .carried), rw (f .1, e) (r .agrees))
+    go false e ih = rw (stays e, e) ih
+      where
+        stays : isAccepted lacks none c ≡ false → after lacks none c ≡ none
+        stays q = after-refused lacks none c q
+
 pub every-list : EveryList
-unfolding after listing
-every-list lacks b cs e =
+every-list lacks cs = go (from-none lacks cs)
+  where
+    go : ((putIn lacks cs ≡ none) × (accepted lacks cs ≡ [])) ⊎ ((p : Plan) × (putIn lacks cs ≡ some p) × Agrees p (accepted lacks cs))
+        → ((putIn lacks cs ≡ none) × (accepted lacks cs ≡ [])) ⊎ PutIn lacks cs
+    go (inl t) = inl t
+    go (inr t) = inr (agreed lacks cs (t .0) (t .1) (t .2))
+
+pub every-opened-list : EveryOpenedList
+every-opened-list lacks b cs e =
     let c : Call = record { operation = openPlan; body = b } in
-    let opened : after lacks none c ≡ some (fresh (openedRooms (bodyOf c)) (openedSettings (bodyOf c))) = rw e in
-    let r = reach lacks (fresh (openedRooms (bodyOf c)) (openedSettings (bodyOf c))) (c ∷ []) cs (first-opened lacks b e) in
-    let s : Sound (r .plan) = r .agrees .is-sound in
-    let exact : ListsExactly (map listed (r .plan .rules)) (λ f. setNamed f (r .plan .rules)) = lists-named (r .plan .rules) (s .order) in
-    let same : (f : Filter) → setNamed f (r .plan .rules) ≡ lastSet f (accepted lacks (c ∷ cs)) = λ f. rw (opened, e) (r .agrees .filters f) in
-    let listed-rising : T (rising (map listed (r .plan .rules))) = rising-listed (r .plan .rules) (s .order) in
+    let f = after-first lacks c e in
+    let r = reach lacks (f .0) (c ∷ []) cs (f .2) in
     record {
-      plan = r .plan;
-      carried = rw opened (r .carried);
-      never-plan = rw (opened, e) (r .unplanned);
-      opening = r .agrees .opening;
-      opened = rw (opened, e) (r .agrees .opened);
-      rooms = r .agrees .rooms;
-      settings = r .agrees .settings;
-      sets = λ n. rw (opened, e) (r .agrees .sets n);
-      in-order = listed-rising;
-      filters = λ f n. (λ m. sym (same f) ∙ exact f n .0 m, λ q. exact f n .1 (same f ∙ q));
-      one-listing = λ ls t x. one-list ls (map listed (r .plan .rules)) t listed-rising
-          (λ l m. exact (l .filter) (l .set) .1 (same (l .filter) ∙ x (l .filter) (l .set) .0 m))
-          (λ l m. x (l .filter) (l .set) .1 (sym (same (l .filter)) ∙ exact (l .filter) (l .set) .0 m));
-      is-sound = sound-of (r .plan) s;
-      distinct = distinct-filters (r .plan .rules) (s .order);
-      removable = removable lacks (r .plan) s;
+      put-in = agreed lacks (c ∷ cs) (r .plan) (rw (f .1) (r .carried)) (rw (f .1, e) (r .agrees));
+      never-plan = rw (f .1, e) (r .unplanned);
     }

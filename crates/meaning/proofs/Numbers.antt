@@ -25,15 +25,9 @@ use Rattle.meaning.proofs.Tests.{is-true, true-is, is-false, false-is, 
 use Rattle.meaning.proofs.Choice.{Choice, noRule, theRule, choice}
 use Rattle.meaning.proofs.Stretches.{ranged, all-ranged, Ready, short-exactly, accounted}
 use Rattle.meaning.proofs.ConditionedNumber.{conditioned-length}
-use Rattle.meaning.proofs.Soundness.{Sound, sound-parts}
+use Rattle.meaning.proofs.Soundness.{Sound, sound-parts, held-passes}
 
 -- WHAT SOUNDNESS GIVES OF THE CHOSEN RULE AND ITS SET
-
--- a held content passes
-held-passes : (slots : List (Option (List ℕ))) (n : ℕ) (c : List ℕ) → T (all slotPasses slots) → getD slots n none ≡ some c → T (contentPasses c)
-held-passes [] n c t e = absurd (let z : _≡_ {A = ℕ} 0 1 = cc in omega arith)
-held-passes (o ∷ os) zero c t e = subst (λ (x : Option (List ℕ)). T (slotPasses x)) e (and-left (slotPasses o) (all slotPasses os) t)
-held-passes (o ∷ os) (suc n) c t e = held-passes os n c (and-right (slotPasses o) (all slotPasses os) t) e
 
 module _ (p : Plan) (s : Sound p) (class : ℕ) (ds : List ℕ) (r : Rule) (content : List ℕ) (given : Conditions p class ds r content) where
   passes : T (contentPasses content)

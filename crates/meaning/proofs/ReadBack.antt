@@ -2,10 +2,11 @@
 use Prim.Native.Nat.{ℕ, zero, suc, _<_}
 use mathlib.Core.Path.{_≡_, refl, ap, sym, _∙_}
 use mathlib.Core.Bool.{Bool, true, false, _&&_, _||_, not}
-use mathlib.Core.List.{List, [], _∷_}
+use mathlib.Core.List.{List, [], _∷_, _++_}
 use mathlib.Core.Option.{Option, none, some}
-use lib.ListN.{length, getD, set, replicate}
-use lib.Seq.{getD-set-same, getD-set-other}
+use native.Mathlib.Omega.{arith}
+use lib.ListN.{length, take, drop, getD, set, replicate, length-drop, take-append-drop}
+use lib.Seq.{getD-set-same, getD-set-other, take-all}
 use lib.Dec.{T, T-not, eqb, isEq}
 use borrow.Author.Tests.{eqb-true, eqb-false}
 use Rattle.meaning.specs.Basics.{if_then_else_, any, isSome}
@@ -16,7 +17,7 @@ use Rattle.meaning.specs.Rules.{Rule, filterIn, hasFilter, setNamed, ins
 use Rattle.meaning.specs.Actions.{contentInRange}
 use Rattle.meaning.specs.Plan.{Plan, held, fresh, withSlot, withRules}
 use Rattle.meaning.specs.Reads.{overRoom}
-use Rattle.meaning.specs.Calls.{Operation, openPlan, addSet, replaceSet, removeSet, addRule, changeRule, removeRule, Call, bodyOf, openedRooms, setNumber, contentGiven, codeGiven, setGiven, ruleGiven, holdsFilter, addSetLines, replaceSetLines, removeSetLines, addRuleLines, changeRuleLines, linesOf, refusal, made, onPlan}
+use Rattle.meaning.specs.Calls.{Operation, openPlan, addSet, replaceSet, removeSet, addRule, changeRule, removeRule, Call, kindOf, bodyLength, bodyOf, openedRooms, openedSettings, setNumber, contentGiven, codeGiven, setGiven, ruleGiven, holdsFilter, addSetLines, replaceSetLines, removeSetLines, addRuleLines, changeRuleLines, linesOf, refusal, made, onPlan}
 use Rattle.meaning.specs.LookBack.{openingAfter, contentAfter, setAfter}
 use Rattle.meaning.proofs.Tests.{true-is, is-true, and-left, or-left-false, or-right-false, not-not, passed-at}
 use Rattle.meaning.proofs.RuleLists.{before, same-filter, filter-same, moved}
@@ -150,9 +151,33 @@ module _ (p : Plan) (b : List ℕ) (f : Filter) where
       go false q = named-rename-other f (filterOf (codeGiven b)) (setGiven b) (p .rules) q
   set-after removeRule lacks e = named-without f (filterOf (codeGiven b)) (p .rules)
 
+-- THE OPENING IN FORCE
+
+-- the 40 bytes of the opening of what was put in
+abbrev pub openingIn : Option Plan → Option (List ℕ)
+openingIn none = none
+openingIn (some p) = some (p .rooms ++ p .settings)
+
+parts-whole : (b : List ℕ) → length b ≡ 40 → openedRooms b ++ openedSettings b ≡ b
+parts-whole b h =
+    let all : take 36 (drop 4 b) ≡ drop 4 b = take-all 36 (drop 4 b) (rw (length-drop 4 b) (omega arith)) in
+    rw all (take-append-drop 4 b)
+
+opening-after : (p : Plan) (o : Operation) (b : List ℕ) → length b ≡ bodyLength (kindOf o)
+    → openingIn (made o (some p) b) ≡ openingAfter o b (some (p .rooms ++ p .settings))
+unfolding fresh withSlot withRules bodyLength
+opening-after p openPlan b h = ap some (parts-whole b h)
+opening-after p addSet b h = refl
+opening-after p replaceSet b h = refl
+opening-after p removeSet b h = refl
+opening-after p addRule b h = refl
+opening-after p changeRule b h = refl
+opening-after p removeRule b h = refl
+
 -- AFTER AN ACCEPTED CALL OVER A SOUND PLAN
 
 pub record ReadsBack (lacks : List ℕ → Bool) (p : Plan) (c : Call) : Type 0 where
+  pub opening : openingIn (made (c .operation) (some p) (bodyOf c)) ≡ openingAfter (c .operation) (bodyOf c) (openingIn (some p))
   pub sets : (n : ℕ) → heldIn (made (c .operation) (some p) (bodyOf c)) n ≡ contentAfter (c .operation) (bodyOf c) n (held p n)
   pub filters : (f : Filter) → setIn (made (c .operation) (some p) (bodyOf c)) f ≡ setAfter (c .operation) (bodyOf c) f (setNamed f (p .rules))
 
@@ -160,6 +185,7 @@ pub reads-back : (lacks : List ℕ → Bool) (p : Plan) (c : Call) → Sound p �
 reads-back lacks p c s e =
     let t = accepted-passed lacks (some p) c e in
     record {
+      opening = opening-after p (c .operation) (bodyOf c) (t .whole);
       sets = λ n. content-after p (bodyOf c) n s (c .operation) lacks (t .checks);
       filters = λ f. set-after p (bodyOf c) f (c .operation) lacks (t .checks);
     }

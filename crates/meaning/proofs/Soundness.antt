@@ -1,8 +1,8 @@
 -- Every accepted call leaves a sound plan sound, and an accepted opening makes one.
 use Prim.Native.Nat.{ℕ, zero, suc, _+_, _≤_, _<_}
-use mathlib.Core.Path.{_≡_, refl, ap, sym, _∙_}
+use mathlib.Core.Path.{_≡_, refl, ap, sym, subst, _∙_}
 use mathlib.Core.Bool.{Bool, true, false, _&&_, _||_, not}
-use mathlib.Core.List.{List, [], _∷_}
+use mathlib.Core.List.{List, [], _∷_, List·Memᴰ}
 use mathlib.Core.Option.{Option, none, some}
 use native.Mathlib.Omega.{arith}
 use lib.ListN.{length, take, drop, getD, set, replicate, length-set, length-replicate, length-drop}
@@ -16,10 +16,10 @@ use Rattle.meaning.specs.Filters.{Filter, filterOf, filterInRange}
 use Rattle.meaning.specs.Rules.{Rule, filterIn, names, hasFilter, inOrder, insert, rename, without}
 use Rattle.meaning.specs.Actions.{actionsOf, contentInRange}
 use Rattle.meaning.specs.Groups.{groupsHold, fit}
-use Rattle.meaning.specs.Plan.{Plan, roomsIn, held, fresh, withSlot, withRules, sized, contentPasses, slotPasses, codePasses, fitsHeld, rulesFit, codesPass, soundRules, sound}
+use Rattle.meaning.specs.Plan.{Plan, roomsIn, held, fresh, withSlot, withRules, sized, contentPasses, slotPasses, codePasses, fitsHeld, rulesFit, codesPass, soundRules, sound, NamesHeld}
 use Rattle.meaning.specs.Reads.{overRoom}
-use Rattle.meaning.specs.Calls.{Operation, openPlan, addSet, replaceSet, removeSet, addRule, changeRule, removeRule, Call, kindOf, bodyLength, isCut, bodyOf, openedRooms, openedSettings, setNumber, contentGiven, codeGiven, setGiven, ruleGiven, holdsFilter, openingLines, addSetLines, replaceSetLines, removeSetLines, addRuleLines, changeRuleLines, removeRuleLines, overPlan, linesOf, refusal, onPlan, made}
-use Rattle.meaning.proofs.Tests.{is-true, is-false, true-is, false-is, and-left, and-right, and-both, or-left-false, or-right-false, or-use, not-not, each-all, all-at, passed-at, passed, all-weaken, all-both, none-any, all-set, all-replicate}
+use Rattle.meaning.specs.Calls.{Operation, openPlan, addSet, replaceSet, removeSet, addRule, changeRule, removeRule, Call, kindOf, bodyLength, isCut, bodyOf, openedRooms, openedSettings, setNumber, contentGiven, codeGiven, setGiven, ruleGiven, holdsFilter, openingLines, addSetLines, replaceSetLines, removeSetLines, addRuleLines, changeRuleLines, removeRuleLines, overPlan, linesOf, refusal, onPlan, made, isAccepted, after}
+use Rattle.meaning.proofs.Tests.{is-true, is-false, true-is, false-is, and-left, and-right, and-both, or-left-false, or-right-false, or-use, not-not, each-all, all-at, passed-at, passed, all-weaken, all-both, none-any, all-set, all-replicate, all-mem}
 use Rattle.meaning.proofs.RuleLists.{same-filter, moved, all-insert, in-order-insert, length-insert, all-without, in-order-without, length-without, all-rename, in-order-rename, length-rename}
 
 -- WHAT SOUND MEANS, FIELD BY FIELD
@@ -294,3 +294,30 @@ accepted-passed lacks s c e =
 pub accepted-sound : (lacks : List ℕ → Bool) (s : Option Plan) (c : Call) → SoundIf s → refusal lacks s c ≡ 0 → SoundIf (made (c .operation) s (bodyOf c))
 accepted-sound lacks s c k e =
     let t = accepted-passed lacks s c e in made-sound (c .operation) lacks s (bodyOf c) (t .whole) k (t .checks)
+
+-- any call, refused or accepted
+pub after-sound : (lacks : List ℕ → Bool) (s : Option Plan) (c : Call) → SoundIf s → SoundIf (after lacks s c)
+unfolding after
+after-sound lacks s c k = go (isAccepted lacks s c) refl
+  where
+    go : (t : Bool) → isAccepted lacks s c ≡ t → SoundIf (if t then made (c .operation) s (bodyOf c) else s)
+    go true e = accepted-sound lacks s c k (eqb-true (refusal lacks s c) 0 e)
+    go false e = k
+
+-- THE SET THAT A RULE NAMES
+
+-- a held content passes
+pub held-passes : (slots : List (Option (List ℕ))) (n : ℕ) (c : List ℕ) → T (all slotPasses slots) → getD slots n none ≡ some c → T (contentPasses c)
+held-passes [] n c t e = absurd (let z : _≡_ {A = ℕ} 0 1 = cc in omega arith)
+held-passes (o ∷ os) zero c t e = subst (λ (x : Option (List ℕ)). T (slotPasses x)) e (and-left (slotPasses o) (all slotPasses os) t)
+held-passes (o ∷ os) (suc n) c t e = held-passes os n c (and-right (slotPasses o) (all slotPasses os) t) e
+
+-- a rule of a sound plan "names a set that exists and fits it"
+pub names-held : (p : Plan) → Sound p → (r : Rule) → List·Memᴰ r (p .rules) → NamesHeld p r
+unfolding rulesFit
+names-held p s r m =
+    go (held p (r .set)) refl (all-mem (λ (x : Rule). fitsHeld (filterIn x) (getD (p .slots) (x .set) none)) (p .rules) (s .fits) m)
+  where
+    go : (o : Option (List ℕ)) → held p (r .set) ≡ o → T (fitsHeld (filterIn r) o) → NamesHeld p r
+    go none e t = absurd t
+    go (some c) e t = record { content = c; is-held = e; fits = t; passes = held-passes (p .slots) (r .set) c (s .pass) e }

@@ -15,7 +15,7 @@ use Rattle.meaning.specs.Filters.{Filter, lengthFits, fitsNumber}
 use Rattle.meaning.specs.Actions.{CA, isIGN, isX, isFPFX, isCCDEF, valueOf, setsValue, ActionSet, casOf, casInRange, caInRange, mostOf}
 use Rattle.meaning.specs.Groups.{isSet, eachValueOnce, fpfxFirst, onlyCcdefAfterX, fixedOf, fixedSum, fpfxMeetsPrefix, sumFits, casFit}
 use Rattle.meaning.specs.Conditioning.{width, meetsTooFew, short, Stretch, emptyStretch, takesValue, stretchFrom, stretchOf, digitsAt, adds, joined}
-use Rattle.meaning.specs.Stretches.{stretchAt, Covers, covered, fixed, ignored, matched, allLeft, none, ShortExactly, Accounted}
+use Rattle.meaning.specs.Stretches.{stretchAt, Covers, covered, fixed, ignored, matched, allLeft, takesNone, ShortExactly, Accounted}
 use Rattle.meaning.proofs.Tests.{is-true, true-is, is-false, false-is, and-left, and-right, and-both, or-left-false, or-right-false, or-other, all-mem, any-mem, same-tests, allBelow, at-below}
 use Rattle.meaning.proofs.Choice.{Fits, fits-parts}
 
@@ -330,7 +330,7 @@ module _ (read : ℕ → Stretch) (prefix ds : List ℕ) (prefix-is : prefix ≡
       go false false false true ei ex ef ec ih =
           let w : width m left a ≡ 0 = ccdef-width m left a (true-is _ ec) in
           let here : at + 0 ≡ at = omega arith in
-          none (true-is _ ec) (rw here at (ih 0 w))
+          takesNone (true-is _ ec) (rw here at (ih 0 w))
       go false false false false ei ex ef ec ih =
           let below : a .code < 16 = ranged-below a is-ranged in
           let above : a .code ≢ 0 = ranged-above a is-ranged in
@@ -392,7 +392,7 @@ module _ (read : ℕ → Stretch) (prefix ds : List ℕ) where
       join-step at (length ds - at) a xs
       (adds-value at a (stretchAt at (length ds - at)) (ne-eqb (a .code) 1 (λ q. omega arith)) (ne-eqb (a .code) 15 (λ q. omega arith)) e) (omega arith)
       (rw all (joined-covers c))
-  joined-covers (none {at} {a} {xs} t c) =
+  joined-covers (takesNone {at} {a} {xs} t c) =
       let code : a .code ≡ 15 = eqb→eq (a .code) 15 t in
       let here : at + 0 ≡ at = omega arith in
       rw (adds-nothing at a (ne-eqb (a .code) 1 (λ q. omega arith)) (is-true _ t), here) (joined-covers c)

@@ -72,7 +72,7 @@ outgoingClass set incoming = if eqb set AS-INCOMING then incoming else set
 unfoldable pub formatted : ℕ → Stage → List ℕ → Answer
 formatted class s out = if leb (length out) 32 then served FORMATTED class s out else refused LONG
 
--- "If it is not RELAY .. outcome 2 RESPONDED. Withheld: outcome 3 UNCHANGED. Else outcome 4 FORMATTED".
+-- "If it is not RELAY nothing more is carried out: outcome 2 RESPONDED"; "Withheld: outcome 3 UNCHANGED. Else outcome 4 FORMATTED".
 -- "The class answered is the set's in outcomes 1 and 4, else the incoming one."
 unfoldable pub afterServices : ℕ → ℕ → Stage → List ℕ → Answer
 afterServices incoming outgoing s out =

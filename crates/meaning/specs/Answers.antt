@@ -28,8 +28,6 @@ use Rattle.meaning.specs.declared.Counted.{Counted}
 use Rattle.meaning.specs.declared.Counted.the-variants.{Rules, Refused as NotCounted}
 use Rattle.meaning.specs.declared.Chosen.{Chosen}
 use Rattle.meaning.specs.declared.Chosen.the-variants.{At, NoRule}
-use Rattle.meaning.specs.declared.FilterPlace.{FilterPlace}
-use Rattle.meaning.specs.declared.FilterPlace.the-variants.{Held, Absent}
 use Rattle.meaning.specs.declared.Order.{Order}
 use Rattle.meaning.specs.declared.Order.the-variants.{Before, Same, After}
 use Rattle.meaning.specs.declared.Answered.{Answered}
@@ -105,15 +103,6 @@ countOf (NotCounted r) = record { refusal = numberOfRefusal r; number = 0 }
 abbrev pub placeChosen : Chosen → Option ℕ
 placeChosen (At k) = some (k .0)
 placeChosen NoRule = none
-
--- whether the filter is held, and its place or the place where adding would put it
-abbrev pub placeHeld : FilterPlace → Option ℕ
-placeHeld (Held k) = some (k .0)
-placeHeld (Absent k) = none
-
-abbrev pub placeOfFilter : FilterPlace → ℕ
-placeOfFilter (Held k) = k .0
-placeOfFilter (Absent k) = k .0
 
 abbrev pub orderingOf : Order → Ordering
 orderingOf Before = Ordering·lt

@@ -80,7 +80,7 @@ abbrev pub digitsOf : List ℕ → List ℕ
 digitsOf [] = []
 digitsOf (n ∷ ds) = take n ds
 
--- it has lo to hi digits, each a digit, and "unused bytes are 0"
+-- it has lo to hi digits, each a digit; "Unused bytes are 0"
 abbrev pub digitsInRange : ℕ → ℕ → List ℕ → Bool
 digitsInRange lo hi [] = false
 digitsInRange lo hi (n ∷ ds) = within lo hi n && (all isDigit (take n ds) && all isZero (drop n ds))

@@ -44,7 +44,7 @@ bodyLength k = getD (40 ∷ 47 ∷ 47 ∷ 2 ∷ 21 ∷ 21 ∷ 19 ∷ 73 ∷ 2 �
 abbrev pub isCut : Call → Bool
 isCut c = ltb (length (c .body)) (bodyLength (kindOf (c .operation)))
 
--- the bytes of the body that its kind says: those behind are not looked at
+-- the bytes of the body that its kind says: those behind are not looked at (docs/DECISIONS.md, 17)
 abbrev pub bodyOf : Call → List ℕ
 bodyOf c = take (bodyLength (kindOf (c .operation))) (c .body)
 

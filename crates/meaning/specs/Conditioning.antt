@@ -28,7 +28,7 @@ pub record Stretch : Type 0 where
   pub start : ℕ
   pub count : ℕ
 
--- "an empty stretch if the value isn't taken from the number"
+-- "an empty stretch if the value isn't taken from the number"; where it starts is the project's choice (docs/DECISIONS.md, 15)
 abbrev pub emptyStretch : Stretch
 emptyStretch = record { start = 0; count = 0 }
 

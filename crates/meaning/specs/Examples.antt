@@ -86,9 +86,9 @@ threeFilters = twoFilters ++ (call addRule (ruleBody 2 b339090 15) ∷ [])
 
 pub data Query : Type 0 where
   choice : ℕ → List ℕ → Query  -- the filter chosen: its class, its length, the set, its prefix
-  answered : List ℕ → Query  -- refusal, outcome, class, response, count, the eight actions, the digits
+  answered : List ℕ → Query  -- refusal, outcome, class, response, count, the eight actions, how many digits, the digits
   condition : ℕ → List ℕ → Query  -- refusal, the conditioned number
-  refusals : Query  -- the number of each call
+  nothing : Query  -- the numbers of the calls say all
 
 abbrev pub shownListed : Listed → List ℕ
 shownListed l = l .filter .class ∷ l .filter .len ∷ l .set ∷ l .filter .prefix
@@ -98,7 +98,7 @@ shownRule none = []
 shownRule (some r) = shownListed (listed r)
 
 abbrev pub shownAnswer : Answer → List ℕ
-shownAnswer a = a .refusal ∷ a .outcome ∷ a .class ∷ a .response ∷ a .count ∷ (a .actions ++ a .digits)
+shownAnswer a = a .refusal ∷ a .outcome ∷ a .class ∷ a .response ∷ a .count ∷ (a .actions ++ (length (a .digits) ∷ a .digits))
 
 abbrev pub shownRead : Read → List ℕ
 shownRead r = r .refusal ∷ r .bytes
@@ -112,21 +112,27 @@ abbrev pub shown : Query → List Call → List ℕ
 shown (choice class ds) cs = shownChoice (putIn (lacksBytes 640) cs) class ds
 shown (answered b) cs = shownAnswer (answer (putIn (lacksBytes 640) cs) 35 b)
 shown (condition class ds) cs = shownRead (conditioned (putIn (lacksBytes 640) cs) 35 class ds)
-shown refusals cs = refusalsFrom (lacksBytes 640) none cs
+shown nothing cs = []
 
 -- THE TABLE
 
+-- the calls, the number that each is answered with, and what is asked behind them
 pub record Row : Type 0 where
   pub calls : List Call
+  pub numbers : List ℕ
   pub query : Query
   pub result : List ℕ
 
-abbrev pub row : List Call → Query → List ℕ → Row
-row cs q r = record { calls = cs; query = q; result = r }
+abbrev pub row : List Call → List ℕ → Query → List ℕ → Row
+row cs ns q r = record { calls = cs; numbers = ns; query = q; result = r }
 
--- no action carried out, and the places behind one, or two
-abbrev pub none8 : List ℕ
-none8 = replicate 8 0
+-- every call accepted
+abbrev pub accepted3 : List ℕ
+accepted3 = 0 ∷ 0 ∷ 0 ∷ []
+
+-- the eight places with no action, one, or two
+abbrev pub actions0 : List ℕ
+actions0 = replicate 8 0
 
 abbrev pub actions1 : ℕ → List ℕ
 actions1 a = a ∷ replicate 7 0
@@ -137,28 +143,34 @@ actions2 a b = a ∷ b ∷ replicate 6 0
 unfoldable pub table : List Row
 table =
     -- M1: the second
-    row twoFilters (choice 2 N) (2 ∷ 0 ∷ 0 ∷ b339090)
+    row twoFilters (0 ∷ accepted3) (choice 2 N) (2 ∷ 0 ∷ 0 ∷ b339090)
     -- M2: the third
-    ∷ row threeFilters (choice 2 N) (2 ∷ 15 ∷ 0 ∷ b339090)
+    ∷ row threeFilters (0 ∷ 0 ∷ accepted3) (choice 2 N) (2 ∷ 15 ∷ 0 ∷ b339090)
     -- M3: NO RULE
-    ∷ row threeFilters (answered (numberBody 1 N 0 [])) (0 ∷ 0 ∷ 1 ∷ 0 ∷ 0 ∷ none8)
+    ∷ row threeFilters (0 ∷ 0 ∷ accepted3) (answered (numberBody 1 N 0 [])) (0 ∷ 0 ∷ 1 ∷ 0 ∷ 0 ∷ (actions0 ++ (0 ∷ [])))
     -- M4: SHORT
-    ∷ row (under open55 (S1 (2 ∷ [])) 1) (answered (numberBody 1 [] 0 [])) (12 ∷ 0 ∷ 0 ∷ 0 ∷ 0 ∷ none8)
+    ∷ row (under open55 (S1 (2 ∷ [])) 1) accepted3 (answered (numberBody 1 [] 0 [])) (12 ∷ 0 ∷ 0 ∷ 0 ∷ 0 ∷ (actions0 ++ (0 ∷ [])))
     -- M5: 553387654321
-    ∷ row (under open55 S2 2) (condition 2 N) (0 ∷ 5 ∷ 5 ∷ 3 ∷ 3 ∷ subscriber)
+    ∷ row (under open55 S2 2) accepted3 (condition 2 N) (0 ∷ 5 ∷ 5 ∷ 3 ∷ 3 ∷ subscriber)
     -- M6: 90903387654321, class 1, two actions
-    ∷ row (under open55 S2 2) (answered (numberBody 2 N 0 [])) (0 ∷ 4 ∷ 1 ∷ 0 ∷ 2 ∷ (actions2 2 5 ++ (9 ∷ 0 ∷ 9 ∷ 0 ∷ 3 ∷ 3 ∷ subscriber)))
+    ∷ row (under open55 S2 2) accepted3 (answered (numberBody 2 N 0 []))
+    (0 ∷ 4 ∷ 1 ∷ 0 ∷ 2 ∷ (actions2 2 5 ++ (14 ∷ 9 ∷ 0 ∷ 9 ∷ 0 ∷ 3 ∷ 3 ∷ subscriber)))
     -- M7: 87654321
-    ∷ row (under open55 (S1 (2 ∷ [])) 1) (answered (numberBody 1 subscriber 3 (7 ∷ 7 ∷ []))) (0 ∷ 4 ∷ 1 ∷ 0 ∷ 1 ∷ (actions1 2 ++ subscriber))
+    ∷ row (under open55 (S1 (2 ∷ [])) 1) accepted3 (answered (numberBody 1 subscriber 3 (7 ∷ 7 ∷ []))) (0 ∷ 4 ∷ 1 ∷ 0 ∷ 1 ∷ (actions1 2 ++ (8 ∷ subscriber)))
     -- M8: 009987654321
-    ∷ row (under open0099 (S1 (2 ∷ [])) 1) (answered (numberBody 1 subscriber 3 (7 ∷ 7 ∷ [])))
-    (0 ∷ 4 ∷ 1 ∷ 0 ∷ 1 ∷ (actions1 2 ++ (0 ∷ 0 ∷ 9 ∷ 9 ∷ subscriber)))
+    ∷ row (under open0099 (S1 (2 ∷ [])) 1) accepted3 (answered (numberBody 1 subscriber 3 (7 ∷ 7 ∷ [])))
+    (0 ∷ 4 ∷ 1 ∷ 0 ∷ 1 ∷ (actions1 2 ++ (12 ∷ 0 ∷ 0 ∷ 9 ∷ 9 ∷ subscriber)))
     -- M9: LONG
-    ∷ row (under open55 (S1 (2 ∷ [])) 1) (answered (numberBody 1 (replicate 32 7) 2 (1 ∷ []))) (13 ∷ 0 ∷ 0 ∷ 0 ∷ 0 ∷ none8)
+    ∷ row (under open55 (S1 (2 ∷ [])) 1) accepted3 (answered (numberBody 1 (replicate 32 7) 2 (1 ∷ []))) (13 ∷ 0 ∷ 0 ∷ 0 ∷ 0 ∷ (actions0 ++ (0 ∷ [])))
     -- M10: GROUPS
-    ∷ row (open55 ∷ call addSet (S1 (3 ∷ 2 ∷ [])) ∷ []) refusals (0 ∷ 6 ∷ [])
+    ∷ row (open55 ∷ call addSet (S1 (3 ∷ 2 ∷ [])) ∷ []) (0 ∷ 6 ∷ []) nothing []
     -- M11: MISFIT; fits
-    ∷ row (open55 ∷ call addSet S2 ∷ call addRule (ruleBody 2 (11 ∷ []) 7) ∷ call addRule (ruleBody 2 (11 ∷ []) 8) ∷ []) refusals (0 ∷ 0 ∷ 9 ∷ 0 ∷ [])
+    ∷ row (open55 ∷ call addSet S2 ∷ call addRule (ruleBody 2 (11 ∷ []) 7) ∷ call addRule (ruleBody 2 (11 ∷ []) 8) ∷ []) (0 ∷ 0 ∷ 9 ∷ 0 ∷ []) nothing []
     -- M12: RESPONDED, 4, one action
-    ∷ row (under openRelease (S1 (1 ∷ 2 ∷ [])) 1) (answered (numberBody 1 subscriber 0 [])) (0 ∷ 2 ∷ 1 ∷ 4 ∷ 1 ∷ actions1 1)
+    ∷ row (under openRelease (S1 (1 ∷ 2 ∷ [])) 1) accepted3 (answered (numberBody 1 subscriber 0 [])) (0 ∷ 2 ∷ 1 ∷ 4 ∷ 1 ∷ (actions1 1 ++ (0 ∷ [])))
     ∷ []
+
+-- a row holds: each call is answered with its number, and what is asked with the row's result
+pub record Holds (r : Row) : Type 0 where
+  pub numbers : refusalsFrom (lacksBytes 640) none (r .calls) ≡ r .numbers
+  pub result : shown (r .query) (r .calls) ≡ r .result

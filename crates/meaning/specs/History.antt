@@ -11,7 +11,7 @@ use Rattle.meaning.specs.Basics.{all, isSome}
 use Rattle.meaning.specs.Refusals.{PLAN, IN-USE}
 use Rattle.meaning.specs.Filters.{Filter, isBefore}
 use Rattle.meaning.specs.Rules.{Rule, filterIn}
-use Rattle.meaning.specs.Plan.{Plan, held, referrers, sound}
+use Rattle.meaning.specs.Plan.{Plan, held, referrers, sound, NamesHeld}
 use Rattle.meaning.specs.Reads.{Listed, listing}
 use Rattle.meaning.specs.Calls.{Operation, openPlan, removeSet, Call, isCut, setNumber, bodyOf, openedRooms, openedSettings, refusal, putIn, refusalsFrom}
 use Rattle.meaning.specs.LookBack.{accepted, lastOpening, lastContent, lastSet}
@@ -35,12 +35,11 @@ noRule = record { code = []; set = 0 }
 abbrev pub removal : List ℕ → Call
 removal b = record { operation = removeSet; body = b }
 
+-- what was put in by a list of calls, and what holds of it
 pub record PutIn (lacks : List ℕ → Bool) (cs : List Call) : Type 0 where
   -- what is in after the list
   pub plan : Plan
   pub carried : putIn lacks cs ≡ some plan
-  -- "each is refused with the number the refusal table gives over what was in before (PLAN never)"
-  pub never-plan : T (all (λ (r : ℕ). not (eqb r PLAN)) (refusalsFrom lacks none cs))
   -- "It is, since the last accepted opening: that opening's rooms and settings"
   pub opening : List ℕ
   pub opened : lastOpening (accepted lacks cs) ≡ some opening
@@ -54,13 +53,22 @@ pub record PutIn (lacks : List ℕ → Bool) (cs : List Call) : Type 0 where
   -- "The plan is sound: no two rules share a filter, and each names a set that exists and fits it"
   pub is-sound : T (sound plan)
   pub distinct : (i j : ℕ) → i < j → j < length (plan .rules) → filterIn (getD (plan .rules) i noRule) ≢ filterIn (getD (plan .rules) j noRule)
+  pub names-held : (r : Rule) → List·Memᴰ r (plan .rules) → NamesHeld plan r
   -- "A set that is held can be removed exactly when no rule names it"
   pub removable : (b : List ℕ) → T (not (isCut (removal b))) → T (isSome (held plan (setNumber (bodyOf (removal b)))))
       → ((refusal lacks (some plan) (removal b) ≡ 0) ↔ (referrers plan (setNumber (bodyOf (removal b))) ≡ 0))
       × ((refusal lacks (some plan) (removal b) ≡ 0) ⊎ (refusal lacks (some plan) (removal b) ≡ IN-USE))
 
--- for every list that begins with an accepted opening
+-- every list of calls: either no opening of it is accepted, and nothing is, or the two statements of what was put in agree
 abbrev pub EveryList : Type 0
-EveryList =
+EveryList = (lacks : List ℕ → Bool) (cs : List Call) → ((putIn lacks cs ≡ none) × (accepted lacks cs ≡ [])) ⊎ PutIn lacks cs
+
+-- a list that begins with an accepted opening: "each is refused with the number the refusal table gives over what was in before (PLAN never)"
+pub record FromOpening (lacks : List ℕ → Bool) (cs : List Call) : Type 0 where
+  pub put-in : PutIn lacks cs
+  pub never-plan : T (all (λ (r : ℕ). not (eqb r PLAN)) (refusalsFrom lacks none cs))
+
+abbrev pub EveryOpenedList : Type 0
+EveryOpenedList =
     (lacks : List ℕ → Bool) (b : List ℕ) (cs : List Call) → refusal lacks none (record { operation = openPlan; body = b }) ≡ 0
-    → PutIn lacks (record { operation = openPlan; body = b } ∷ cs)
+    → FromOpening lacks (record { operation = openPlan; body = b } ∷ cs)

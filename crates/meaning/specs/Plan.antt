@@ -1,10 +1,11 @@
 -- The plan as data: what is put in by opening and provisioning, and what makes it sound.
 use Prim.Native.Nat.{ℕ}
+use mathlib.Core.Path.{_≡_}
 use mathlib.Core.Bool.{Bool, true, false, _&&_}
 use mathlib.Core.List.{List, [], _∷_, map}
 use mathlib.Core.Option.{Option, none, some}
 use lib.ListN.{length, take, drop, getD, set, replicate}
-use lib.Dec.{leb, eqb}
+use lib.Dec.{T, leb, eqb}
 use Rattle.meaning.specs.Basics.{if_then_else_, all, any, count, allOf, part}
 use Rattle.meaning.specs.Settings.{Rooms, roomsOf, roomsInRange, Settings, settingsOf, settingsInRange}
 use Rattle.meaning.specs.Filters.{Filter, filterInRange}
@@ -33,7 +34,7 @@ held p n = getD (p .slots) n none
 unfoldable pub referrers : Plan → ℕ → ℕ
 referrers p n = count (names n) (p .rules)
 
--- the actions of the set that a rule names
+-- the actions of the set that a rule names; a rule of a sound plan names a set that is held
 abbrev pub actionsIn : Option (List ℕ) → ActionSet
 actionsIn none = actionsOf []
 actionsIn (some c) = actionsOf c
@@ -91,3 +92,10 @@ soundRules p =
 
 unfoldable pub sound : Plan → Bool
 sound p = allOf (soundRules p)
+
+-- a rule "names a set that exists and fits it"
+pub record NamesHeld (p : Plan) (r : Rule) : Type 0 where
+  pub content : List ℕ
+  pub is-held : held p (r .set) ≡ some content
+  pub fits : T (fit (filterIn r) (actionsOf content))
+  pub passes : T (contentPasses content)

@@ -114,7 +114,7 @@ abbrev pub ruleCount : Option Plan → Count
 ruleCount none = uncounted PLAN
 ruleCount (some p) = countAfter 0 (length (listing p))
 
--- the rule at a place of the listing, with its refusal number or 0: RANGE for a place that is not there
+-- the rule at a place of the listing, with its refusal number or 0: RANGE for a place that is not there (docs/DECISIONS.md, 16)
 abbrev pub listedOr : Option Listed → ℕ × Option Listed
 listedOr none = (RANGE, none)
 listedOr (some l) = (0, some l)

@@ -92,11 +92,11 @@ listText (some p) = listedLines (listing p) ++ endLine (length (listing p))
 
 -- A RUN
 
--- "A program run uses at most 64 sets and 512 rules (more is ROOM there)"
+-- "A program run uses at most 64 sets and 512 rules (more is ROOM there)": by each room (docs/DECISIONS.md, 1)
 unfoldable pub lacksProgramRoom : List ℕ → Bool
 lacksProgramRoom rooms = ltb 64 ((roomsOf rooms) .sets) || ltb 512 ((roomsOf rooms) .rules)
 
--- kinds 0 to 6 are calls
+-- kinds 0 to 6 are calls; no other kind is asked for
 unfoldable pub operationOf : ℕ → Operation
 operationOf k = getD (openPlan ∷ addSet ∷ replaceSet ∷ removeSet ∷ addRule ∷ changeRule ∷ []) k removeRule
 

@@ -26,7 +26,7 @@ unfoldable pub responded : Stage → Bool
 responded s = leb 2 (s .response)
 
 module _ (settings : Settings) (lookup : Lookup) (fas : List ℕ) where
-  -- "INPRTG sets the response for the lookup's kind"
+  -- "INPRTG sets the response for the lookup's kind"; the answers stand in the order of the kinds (docs/DECISIONS.md, 2)
   unfoldable pub inprtg : Stage → Stage
   inprtg s =
       record {

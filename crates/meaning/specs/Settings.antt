@@ -12,7 +12,7 @@ use Rattle.meaning.specs.Basics.{if_then_else_, all, allOf, isZero, with
 abbrev pub isClass : ℕ → Bool
 isClass c = leb c 5
 
--- 255 "for 'as incoming'"
+-- 255: "as incoming"
 abbrev pub AS-INCOMING : ℕ
 AS-INCOMING = 255
 
@@ -57,7 +57,7 @@ settingsOf b =
       answers = part 32 4 b;
     }
 
--- "default country code, 1 to 3 digits; DFLTRN, 0 to 15; delimiters A and B, 0 to 5 each; 1 RELAY, 2 CONNECT, 3 CONTINUE, 4 RELEASECALL"
+-- "default country code, 1 to 3 digits; default routing number DFLTRN, 0 to 15 ..; delimiters A and B, 0 to 5 each; .. 1 RELAY, 2 CONNECT, 3 CONTINUE, 4 RELEASECALL"
 abbrev pub settingsRanges : List ℕ → List Bool
 settingsRanges b =
     digitsInRange 1 3 (part 0 4 b) ∷ digitsInRange 0 15 (part 4 16 b) ∷ digitsInRange 0 5 (part 20 6 b) ∷ digitsInRange 0 5 (part 26 6 b)
@@ -85,13 +85,13 @@ unfoldable pub entityInRange : ℕ → List ℕ → Bool
 entityInRange kind s = if leb 2 kind then digitsInRange 1 15 s else digitsInRange 0 0 s
 
 -- "ASD and GRN: 0 to 10 digits each, none for kind 0"
-unfoldable pub routeInRange : ℕ → List ℕ → Bool
-routeInRange kind s = if isZero kind then digitsInRange 0 0 s else digitsInRange 0 10 s
+unfoldable pub asdOrGrnInRange : ℕ → List ℕ → Bool
+asdOrGrnInRange kind s = if isZero kind then digitsInRange 0 0 s else digitsInRange 0 10 s
 
 abbrev pub lookupRanges : List ℕ → List Bool
 lookupRanges b =
-    leb (getD b 0 0) 3 ∷ entityInRange (getD b 0 0) (part 1 16 b) ∷ routeInRange (getD b 0 0) (part 17 11 b)
-    ∷ routeInRange (getD b 0 0) (part 28 11 b) ∷ []
+    leb (getD b 0 0) 3 ∷ entityInRange (getD b 0 0) (part 1 16 b) ∷ asdOrGrnInRange (getD b 0 0) (part 17 11 b)
+    ∷ asdOrGrnInRange (getD b 0 0) (part 28 11 b) ∷ []
 
 unfoldable pub lookupInRange : List ℕ → Bool
 lookupInRange b = allOf (lookupRanges b)

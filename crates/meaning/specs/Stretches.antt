@@ -34,7 +34,7 @@ pub data Covers (read : ℕ → Stretch) (prefix ds : List ℕ) : ℕ → List C
   allLeft : {at : ℕ} {a : CA} {xs : List CA} → T (isX a) → read (valueOf (a .code)) ≡ stretchAt at (length ds - at)
       → at < length ds → Covers read prefix ds (length ds) xs → Covers read prefix ds at (a ∷ xs)
   -- "CCDEF takes none"
-  none : {at : ℕ} {a : CA} {xs : List CA} → T (isCCDEF a) → Covers read prefix ds at xs → Covers read prefix ds at (a ∷ xs)
+  takesNone : {at : ℕ} {a : CA} {xs : List CA} → T (isCCDEF a) → Covers read prefix ds at xs → Covers read prefix ds at (a ∷ xs)
 
 -- SHORT "comes exactly when the rule's length is a wildcard and the number is no longer than document 01's sum F"
 abbrev pub ShortExactly : Filter → ActionSet → List ℕ → Type 0

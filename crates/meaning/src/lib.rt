@@ -3,7 +3,7 @@ ghost use mathlib.Core.Path.{_≡_};
 ghost use Rattle.meaning.specs.Answers.{classOf, outgoingOf, codeOf, numberOfRefusal};
 
 // A class of numbers: INTL, NATL, UNKNOWN and three house classes.
-pub struct Class(pub u8);
+pub struct Class(u8);
 
 // What a byte is as a class.
 pub enum ClassOf {
