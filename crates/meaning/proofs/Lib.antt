@@ -12,3 +12,4 @@ pub mod ReadBack
 pub mod Listings
 pub mod History
 pub mod Examples
+pub mod Computed

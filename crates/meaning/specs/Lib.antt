@@ -20,3 +20,4 @@ pub mod History
 pub mod Records
 pub mod Answers
 pub mod Examples
+pub mod Run

@@ -1,0 +1,7 @@
+pub mod ListLaws
+pub mod ZeroLaws
+pub mod WordLaws
+pub mod Moves
+pub mod SlotLaws
+pub mod Passing
+pub mod DigitLaws

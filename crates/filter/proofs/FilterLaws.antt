@@ -1,0 +1,182 @@
+-- A filter's range, fit and weight, by what was read of its bytes.
+use Prim.Native.Nat.{ℕ, zero, suc, _+_, _*_, _-_, _≤_, _<_}
+use mathlib.Core.Path.{_≡_, refl, sym, ap, _∙_}
+use mathlib.Core.List.{List, [], _∷_}
+use mathlib.Core.Bool.{Bool, true, false, _&&_, _||_}
+use native.Mathlib.Nat.{not-suc-le-zero, le-of-suc-le-suc}
+use native.Mathlib.Numerals.{add-one}
+use native.Mathlib.Omega.{arith}
+use lib.ListN.{length, getD, take, drop, drop-of-length-le, length-drop}
+use lib.Seq.{drop-cons, getD-take, length-take-le}
+use lib.Dec.{T, eqb, leb, leb→le, lit<, lit≤}
+use borrow.Author.Tests.{eq-eqb, ne-eqb, le-leb, lt-leb}
+use Rattle.meaning.specs.Basics.{if_then_else_, all, allOf, within, isZero, isDigit, digitsOf, digitsInRange, beginsWith}
+use Rattle.meaning.specs.Settings.{isClass}
+use Rattle.meaning.specs.Filters.{Filter, filterOf, filterInRange, lengthFits, fitsNumber, stated, rank}
+use Rattle.meaning.specs.Rules.{weight}
+use Rattle.meaning.specs.Answers.{classOf, classNumbered}
+use Rattle.meaning.specs.declared.Class.{Class}
+use Rattle.meaning.specs.declared.ClassOf.{ClassOf}
+use Rattle.meaning.specs.declared.ClassOf.the-variants.{Known, Unknown}
+use Rattle.meaning.proofs.Tests.{and-left, and-right, all-at, all-false}
+use Rattle.buffer.proofs.DigitLaws.{digits-at}
+use Rattle.buffer.proofs.ListLaws.{part-part}
+use Rattle.buffer.proofs.Passing.{and-true, and-false}
+use Rattle.filter.specs.Slots.{FILTER-WIDTH, FilterBytes, prefixFits}
+
+-- A FILTER READS ITS OWN BYTES ALONE
+
+pub filter-part : (s : List ℕ) → filterOf (take FILTER-WIDTH s) ≡ filterOf s
+unfolding filterOf
+filter-part s = λ i. record {
+  class = getD-take FILTER-WIDTH s 0 0 (lit< tt) i;
+  prefix = digitsOf (part-part 1 17 FILTER-WIDTH s (lit≤ tt) i);
+  len = getD-take FILTER-WIDTH s 18 0 (lit< tt) i;
+}
+
+pub range-part : (s : List ℕ) → filterInRange (take FILTER-WIDTH s) ≡ filterInRange s
+unfolding filterInRange
+range-part s =
+    let a : _≡_ {A = ℕ} (getD (take FILTER-WIDTH s) 0 0) (getD s 0 0) = getD-take FILTER-WIDTH s 0 0 (lit< tt) in
+    let b : _≡_ {A = ℕ} (getD (take FILTER-WIDTH s) 1 0) (getD s 1 0) = getD-take FILTER-WIDTH s 1 0 (lit< tt) in
+    let c : _≡_ {A = ℕ} (getD (take FILTER-WIDTH s) 18 0) (getD s 18 0) = getD-take FILTER-WIDTH s 18 0 (lit< tt) in
+    let p : take 17 (drop 1 (take FILTER-WIDTH s)) ≡ take 17 (drop 1 s) = part-part 1 17 FILTER-WIDTH s (lit≤ tt) in
+    λ i. allOf (isClass (a i) ∷ digitsInRange 0 16 (p i) ∷ leb (c i) 32 ∷ (isZero (c i) || leb (b i) (c i)) ∷ [])
+
+pub prefix-is : (s : List ℕ) → FilterBytes s → filterOf s .prefix ≡ take (getD s 1 0) (drop 2 s)
+unfolding filterOf
+prefix-is s h = digits-at 1 16 s (omega (arith, h .whole)) (h .prefix)
+
+-- RANGE
+
+class-known : (b : ℕ) (c : Class) → classOf b ≡ Known c → isClass b ≡ true
+class-known b c e = go (isClass b) refl
+  where
+    go : (t : Bool) → isClass b ≡ t → t ≡ true
+    go true q = refl
+    go false q = let x : Unknown ≡ Known c = sym (ap (λ t. if t then Known (classNumbered b) else Unknown) q) ∙ e in cc
+
+class-unknown : (b : ℕ) → classOf b ≡ Unknown → isClass b ≡ false
+class-unknown b e = go (isClass b) refl
+  where
+    go : (t : Bool) → isClass b ≡ t → t ≡ false
+    go true q = let x : Known (classNumbered b) ≡ Unknown = sym (ap (λ t. if t then Known (classNumbered b) else Unknown) q) ∙ e in cc
+    go false q = refl
+
+module _ (s : List ℕ) where
+  abbrev tests : List Bool
+  tests =
+      isClass (getD s 0 0) ∷ digitsInRange 0 16 (take 17 (drop 1 s)) ∷ leb (getD s 18 0) 32
+      ∷ (isZero (getD s 18 0) || leb (getD s 1 0) (getD s 18 0)) ∷ []
+
+  range-tests : filterInRange (take FILTER-WIDTH s) ≡ allOf tests
+  unfolding filterInRange
+  range-tests = range-part s
+
+  pub range-class : (k : ClassOf) → k ≡ classOf (getD s 0 0) → k ≡ Unknown → filterInRange (take FILTER-WIDTH s) ≡ false
+  range-class k k-is e = range-tests ∙ all-false 0 tests (class-unknown (getD s 0 0) (sym k-is ∙ e))
+
+  module _ (b : Bool) (b-is : b ≡ digitsInRange 0 16 (take (18 - 1) (drop 1 s))) where
+    pub range-prefix : b ≡ false → filterInRange (take FILTER-WIDTH s) ≡ false
+    range-prefix e = range-tests ∙ all-false 1 tests (sym b-is ∙ e)
+
+    pub range-long : 32 < getD s 18 0 → filterInRange (take FILTER-WIDTH s) ≡ false
+    range-long h = range-tests ∙ all-false 2 tests (lt-leb (getD s 18 0) 32 h)
+
+    module _ (k : ClassOf) (c : Class) (k-is : k ≡ classOf (getD s 0 0)) (known : k ≡ Known c) (e : b ≡ true) (short : getD s 18 0 ≤ 32) where
+      last : filterInRange (take FILTER-WIDTH s) ≡ ((isZero (getD s 18 0) || leb (getD s 1 0) (getD s 18 0)) && true)
+      last = range-tests ∙ rw (class-known (getD s 0 0) c (sym k-is ∙ known), ← b-is, e, le-leb (getD s 18 0) 32 short)
+
+      pub range-any : getD s 18 0 ≡ 0 → filterInRange (take FILTER-WIDTH s) ≡ true
+      range-any z = last ∙ rw (eq-eqb (getD s 18 0) 0 z)
+
+      pub range-stated : (getD s 18 0 ≡ 0 → ⊥) → filterInRange (take FILTER-WIDTH s) ≡ leb (getD s 1 0) (getD s 18 0)
+      range-stated z = last ∙ rw (ne-eqb (getD s 18 0) 0 z) (and-true (leb (getD s 1 0) (getD s 18 0)))
+
+-- a filter in range has a prefix of at most 16 digits
+pub range-prefix-fits : (s : List ℕ) → T (filterInRange (take FILTER-WIDTH s)) → T (prefixFits s)
+range-prefix-fits s t =
+    let u : T (allOf (tests s)) = rw (range-tests s) at t in
+    go s (all-at 1 (tests s) u)
+  where
+    go : (s : List ℕ) → T (digitsInRange 0 16 (take 17 (drop 1 s))) → T (prefixFits s)
+    go [] t = absurd t
+    go (x ∷ []) t = absurd t
+    go (x ∷ n ∷ ds) t =
+        and-right (leb 0 n) (leb n 16) (and-left (within 0 16 n) (all isDigit (take n (take 16 ds)) && all isZero (drop n (take 16 ds))) t)
+
+pub range-bytes : (s : List ℕ) → FILTER-WIDTH ≤ length s → T (filterInRange (take FILTER-WIDTH s)) → FilterBytes s
+range-bytes s h t = record { whole = h; prefix = leb→le (getD s 1 0) 16 (range-prefix-fits s t) }
+
+-- BEGINNING WITH A PREFIX: what is left to compare decides
+
+pub begins-short : (ps ds : List ℕ) → length ds < length ps → beginsWith ps ds ≡ false
+begins-short [] ds h = absurd (not-suc-le-zero h)
+begins-short (p ∷ ps) [] h = refl
+begins-short (p ∷ ps) (d ∷ ds) h = rw (begins-short ps ds (le-of-suc-le-suc h)) (and-false (eqb p d))
+
+module _ (ps ds : List ℕ) (i : ℕ) (short : length ps ≤ length ds) (so-far : beginsWith ps ds ≡ beginsWith (drop i ps) (drop i ds)) where
+  begins-step : i < length ps → beginsWith ps ds ≡ (eqb (getD ps i 0) (getD ds i 0) && beginsWith (drop (i + 1) ps) (drop (i + 1) ds))
+  begins-step h = let k : i < length ds = omega arith in so-far ∙ rw (add-one, drop-cons ps i 0, drop-cons ds i 0)
+
+  pub begins-again : i < length ps → getD ps i 0 ≡ getD ds i 0 → beginsWith ps ds ≡ beginsWith (drop (i + 1) ps) (drop (i + 1) ds)
+  begins-again h e = begins-step h ∙ rw (eq-eqb (getD ps i 0) (getD ds i 0) e)
+
+  pub begins-differs : i < length ps → (getD ps i 0 ≡ getD ds i 0 → ⊥) → beginsWith ps ds ≡ false
+  begins-differs h n = begins-step h ∙ rw (ne-eqb (getD ps i 0) (getD ds i 0) n)
+
+  pub begins-ends : length ps ≤ i → beginsWith ps ds ≡ true
+  begins-ends h = so-far ∙ rw (drop-of-length-le ps)
+
+-- FIT
+
+lengthFits-stated : (l n : ℕ) → (l ≡ 0 → ⊥) → lengthFits l n ≡ eqb l n
+lengthFits-stated zero n h = absurd (h refl)
+lengthFits-stated (suc l) n h = refl
+
+pub fits-class : (s ds : List ℕ) (c : ℕ) → (getD s 0 0 ≡ c → ⊥) → fitsNumber (filterOf s) c ds ≡ false
+unfolding fitsNumber filterOf
+fits-class s ds c h = rw (ne-eqb (getD s 0 0) c h)
+
+-- a filter of the number's class: p is its prefix's length as read, b whether the digits begin with the part at 2 to p + 2
+module _ (s ds : List ℕ) (c p : ℕ) (b : Bool) (bytes : FilterBytes s) (same : getD s 0 0 ≡ c) (p-is : p ≡ getD s 1 0)
+    (b-is : b ≡ beginsWith (take (p + 2 - 2) (drop 2 s)) ds) where
+  fits-same : fitsNumber (filterOf s) c ds ≡ (b && lengthFits (getD s 18 0) (length ds))
+  unfolding fitsNumber filterOf
+  fits-same =
+      let k : p + 2 - 2 ≡ getD s 1 0 = omega arith in
+      let e : beginsWith (filterOf s .prefix) ds ≡ b = ap (λ (ps : List ℕ). beginsWith ps ds) (prefix-is s bytes ∙ ap (λ (n : ℕ). take n (drop 2 s)) (sym k)) ∙ sym b-is in
+      rw (eq-eqb (getD s 0 0) c same) (ap (λ (t : Bool). t && lengthFits (getD s 18 0) (length ds)) e)
+
+  pub fits-no : b ≡ false → fitsNumber (filterOf s) c ds ≡ false
+  fits-no e = fits-same ∙ rw e
+
+  pub fits-any : b ≡ true → (l : ℕ) → l ≡ getD s 18 0 → l ≡ 0 → fitsNumber (filterOf s) c ds ≡ true
+  fits-any e l l-is z = fits-same ∙ rw (e, ← l-is, z)
+
+  pub fits-stated : b ≡ true → (l : ℕ) → l ≡ getD s 18 0 → (l ≡ 0 → ⊥) → fitsNumber (filterOf s) c ds ≡ eqb l (length ds)
+  fits-stated e l l-is z = fits-same ∙ rw (e, ← l-is) (lengthFits-stated l (length ds) z)
+
+-- WEIGHT
+
+stated-some : (l : ℕ) → (l ≡ 0 → ⊥) → stated l ≡ 1
+stated-some zero h = absurd (h refl)
+stated-some (suc l) h = refl
+
+pub weight-none : (f : Filter) (ds : List ℕ) (c : ℕ) (b : Bool) → b ≡ fitsNumber f c ds → b ≡ false → weight c ds f ≡ 0
+unfolding weight
+weight-none f ds c b b-is e = rw (← b-is, e)
+
+module _ (s ds : List ℕ) (c p : ℕ) (b : Bool) (b-is : b ≡ fitsNumber (filterOf s) c ds) (e : b ≡ true) (bytes : FilterBytes s) (p-is : p ≡ getD s 1 0) where
+  weight-fits : weight c ds (filterOf s) ≡ 2 * p + stated (getD s 18 0) + 1
+  unfolding weight rank filterOf
+  weight-fits =
+      let h : getD s 1 0 ≤ length (drop 2 s) = simp length-drop (omega (arith, bytes .whole, bytes .prefix)) in
+      let l : length (filterOf s .prefix) ≡ p = ap length (prefix-is s bytes) ∙ length-take-le (getD s 1 0) (drop 2 s) h ∙ sym p-is in
+      rw (← b-is, e) (ap (λ (n : ℕ). 2 * n + stated (getD s 18 0) + 1) l)
+
+  pub weight-any : getD s 18 0 ≡ 0 → weight c ds (filterOf s) ≡ 2 * p + 1
+  weight-any z = weight-fits ∙ rw z (omega arith)
+
+  pub weight-stated : (getD s 18 0 ≡ 0 → ⊥) → weight c ds (filterOf s) ≡ 2 * p + 2
+  weight-stated z = weight-fits ∙ rw (stated-some (getD s 18 0) z) (omega arith)

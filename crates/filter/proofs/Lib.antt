@@ -1,0 +1,4 @@
+pub mod FilterLaws
+pub mod RuleLaws
+pub mod OrderLaws
+pub mod PlaceLaws

@@ -1,0 +1,217 @@
+// Filters as bytes: range, fit, weight and listing order; and the choice and the lookup among rule slots of 24 bytes.
+ghost use mathlib.Core.Path.{_≡_};
+ghost use Prim.Native.Nat.{_+_, _*_, _≤_, _<_};
+ghost use lib.ListN.{length, take, drop};
+ghost use Rattle.meaning.specs.Basics.{beginsWith};
+ghost use Rattle.meaning.specs.Filters.{filterOf, filterInRange, fitsNumber, comparePrefixes, compareLengths, compareFilters};
+ghost use Rattle.meaning.specs.Rules.{weight, chosenPlace};
+ghost use Rattle.meaning.specs.Answers.{placeChosen, orderingOf, setOf};
+ghost use Rattle.filter.specs.Slots.{RULE-WIDTH, FILTER-WIDTH, FilterBytes, RuleArea, ruleOf, rulesOf};
+ghost use Rattle.filter.specs.Place.{filterPlace, placeGiven};
+use meaning::Chosen;
+use meaning::Class;
+use meaning::ClassOf;
+use meaning::FilterPlace;
+use meaning::Order;
+use meaning::RulePlace;
+use meaning::SetNumber;
+
+// The bytes of a rule slot, and where its set number stands.
+pub const RULE_WIDTH: usize = 24;
+
+const SET: usize = 19;
+
+// Where a filter has its class, its prefix's length and digits, and its length.
+const CLASS: usize = 0;
+
+const PREFIX: usize = 1;
+
+const DIGITS: usize = 2;
+
+const LENGTH: usize = 18;
+
+// Whether the bytes are a filter in range.
+pub fn filter_in_range(code: &[u8]) -> bool
+    requires { ⌜ FILTER-WIDTH ≤ length (now code) ⌝ }
+    ensures { λ r. ⌜ r ≡ filterInRange (take FILTER-WIDTH (now (code .entry))) ⌝ }
+{
+    let ClassOf::Known(_) = Class::of(code[CLASS]) else {
+        return false;
+    };
+    if !buffer::digits_in_range(&code[PREFIX..LENGTH], 0, 16) {
+        return false;
+    }
+    let len = code[LENGTH];
+    if 32 < len {
+        return false;
+    }
+    if len == 0 {
+        return true;
+    }
+    code[PREFIX] <= len
+}
+
+// Whether the digits begin with the prefix.
+pub fn begins_with(prefix: &[u8], digits: &[u8]) -> bool
+    ensures { λ r. ⌜ r ≡ beginsWith (now (prefix .entry)) (now (digits .entry)) ⌝ }
+{
+    if digits.len() < prefix.len() {
+        return false;
+    }
+    let mut i = 0;
+    while i < prefix.len() {
+        if prefix[i] != digits[i] {
+            return false;
+        }
+        i += 1;
+    }
+    true
+}
+
+// Whether a filter fits a number.
+pub fn fits_number(code: &[u8], class: u8, digits: &[u8]) -> bool
+    requires { ⌜ FilterBytes (now code) ⌝ }
+    ensures { λ r. ⌜ r ≡ fitsNumber (filterOf (now (code .entry))) class (now (digits .entry)) ⌝ }
+{
+    if code[CLASS] != class {
+        return false;
+    }
+    let e = buffer::wide(code[PREFIX]) + DIGITS;
+    if !begins_with(&code[DIGITS..e], digits) {
+        return false;
+    }
+    let len = buffer::wide(code[LENGTH]);
+    if len == 0 {
+        return true;
+    }
+    len == digits.len()
+}
+
+// 0 for a filter that does not fit the number; the more specific of two that fit weighs more.
+pub fn weigh(code: &[u8], class: u8, digits: &[u8]) -> usize
+    requires { ⌜ FilterBytes (now code) ⌝ }
+    ensures { λ r. ⌜ r ≡ weight class (now (digits .entry)) (filterOf (now (code .entry))) ⌝ }
+{
+    if !fits_number(code, class, digits) {
+        return 0;
+    }
+    let p = 2 * buffer::wide(code[PREFIX]);
+    if code[LENGTH] == 0 {
+        return p + 1;
+    }
+    p + 2
+}
+
+// The rule for a number among the first `count` slots.
+pub fn choose(rules: &[u8], count: usize, class: u8, digits: &[u8]) -> Chosen
+    requires { ⌜ RuleArea count (now rules) ⌝ }
+    ensures { λ r. ⌜ placeChosen r ≡ chosenPlace class (now (digits .entry)) (rulesOf count (now (rules .entry))) ⌝ }
+{
+    let mut best = Chosen::NoRule;
+    let mut most: usize = 0;
+    let mut i: usize = 0;
+    while i < count {
+        let a = RULE_WIDTH * i;
+        let e = a + RULE_WIDTH;
+        let w = weigh(&rules[a..e], class, digits);
+        if most < w {
+            best = Chosen::At(RulePlace(i as u16));
+            most = w;
+        }
+        i += 1;
+    }
+    best
+}
+
+// The order of two prefixes as digits, the shorter first where one begins the other.
+pub fn order_prefixes(a: &[u8], b: &[u8]) -> Order
+    ensures { λ r. ⌜ orderingOf r ≡ comparePrefixes (now (a .entry)) (now (b .entry)) ⌝ }
+{
+    let mut i: usize = 0;
+    while i < a.len() {
+        if b.len() <= i {
+            return Order::After;
+        }
+        if a[i] < b[i] {
+            return Order::Before;
+        }
+        if b[i] < a[i] {
+            return Order::After;
+        }
+        i += 1;
+    }
+    if i < b.len() {
+        return Order::Before;
+    }
+    Order::Same
+}
+
+// The order of two filter lengths: stated lengths rising, the wildcard last.
+pub fn order_lengths(l: u8, m: u8) -> Order
+    ensures { λ r. ⌜ orderingOf r ≡ compareLengths l m ⌝ }
+{
+    if l == m {
+        return Order::Same;
+    }
+    if l == 0 {
+        return Order::After;
+    }
+    if m == 0 {
+        return Order::Before;
+    }
+    if l < m {
+        return Order::Before;
+    }
+    Order::After
+}
+
+// The listing order of two filters.
+pub fn order_filters(a: &[u8], b: &[u8]) -> Order
+    requires { ⌜ FilterBytes (now a) ⌝ }
+    requires { ⌜ FilterBytes (now b) ⌝ }
+    ensures { λ r. ⌜ orderingOf r ≡ compareFilters (filterOf (now (a .entry))) (filterOf (now (b .entry))) ⌝ }
+{
+    if a[CLASS] < b[CLASS] {
+        return Order::Before;
+    }
+    if b[CLASS] < a[CLASS] {
+        return Order::After;
+    }
+    let ea = buffer::wide(a[PREFIX]) + DIGITS;
+    let eb = buffer::wide(b[PREFIX]) + DIGITS;
+    match order_prefixes(&a[DIGITS..ea], &b[DIGITS..eb]) {
+        Order::Before => Order::Before,
+        Order::After => Order::After,
+        Order::Same => order_lengths(a[LENGTH], b[LENGTH]),
+    }
+}
+
+// Where a filter stands among the first `count` slots, or where adding would put it.
+pub fn find(rules: &[u8], count: usize, code: &[u8]) -> FilterPlace
+    requires { ⌜ RuleArea count (now rules) ⌝ }
+    requires { ⌜ FilterBytes (now code) ⌝ }
+    ensures { λ r. ⌜ placeGiven r ≡ filterPlace (filterOf (now (code .entry))) (rulesOf count (now (rules .entry))) ⌝ }
+{
+    let mut i: usize = 0;
+    while i < count {
+        let a = RULE_WIDTH * i;
+        let e = a + RULE_WIDTH;
+        match order_filters(code, &rules[a..e]) {
+            Order::Before => return FilterPlace::Absent(RulePlace(i as u16)),
+            Order::Same => return FilterPlace::Held(RulePlace(i as u16)),
+            Order::After => {}
+        }
+        i += 1;
+    }
+    FilterPlace::Absent(RulePlace(i as u16))
+}
+
+// The number of the set that the rule at a place names.
+pub fn set_at(rules: &[u8], place: RulePlace) -> SetNumber
+    requires { ⌜ RULE-WIDTH * place .0 + RULE-WIDTH ≤ length (now rules) ⌝ }
+    ensures { λ r. ⌜ r ≡ setOf (ruleOf (take RULE-WIDTH (drop (RULE-WIDTH * place .0) (now (rules .entry)))) .set) ⌝ }
+{
+    let k = place.0 as usize;
+    let n = buffer::word(rules, RULE_WIDTH * k + SET);
+    SetNumber(n as u16)
+}

@@ -1,0 +1,38 @@
+-- Document 01, "House records": the run given whole, as the bytes of a file of house records, and the nine lines that it writes.
+use Prim.Native.Nat.{ℕ}
+use Prim.Native.Char.{code}
+use Prim.Native.String.{String, [] as empty, _∷_ as _before_}
+use mathlib.Core.List.{List, [], _∷_, _++_}
+use Rattle.meaning.specs.Examples.{openingBody, ruleBody, numberBody, subscriber, S1}
+
+-- a text as its ASCII bytes
+abbrev pub ascii : String → List ℕ
+ascii empty = []
+ascii (c before s) = code c ∷ ascii s
+
+-- the bytes of some records, one behind the other
+abbrev pub file : List (List ℕ) → List ℕ
+file [] = []
+file (r ∷ rs) = r ++ file rs
+
+-- "Open with country code 55, DFLTRN none; add set 0 (S1 below); add rule NATL, wildcard, wildcard, set 0; number NATL 87654321 with
+-- RN 0015; the same with no record; the same digits as INTL; remove set 0; list". Each record is a byte of kind and its body; the opening asks
+-- room for 8 sets and 8 rules, with no delimiters and RELAY for every kind.
+unfoldable pub run : List ℕ
+run =
+    file
+    (
+    (0 ∷ openingBody [] (1 ∷ 1 ∷ 1 ∷ 1 ∷ []))
+    ∷ (1 ∷ S1 (2 ∷ []))
+    ∷ (4 ∷ ruleBody 1 [] 0)
+    ∷ (7 ∷ numberBody 1 subscriber 2 (0 ∷ 0 ∷ 1 ∷ 5 ∷ []))
+    ∷ (7 ∷ numberBody 1 subscriber 0 [])
+    ∷ (7 ∷ numberBody 0 subscriber 0 [])
+    ∷ (3 ∷ 0 ∷ 0 ∷ [])
+    ∷ (9 ∷ [])
+    ∷ []
+    )
+
+-- the lines as document 01 prints them
+unfoldable pub nineLines : List ℕ
+nineLines = ascii "ok\nok\nok\n4 1 0 1 001587654321\n3 1 0 1 -\n0 0 0 0 -\nno 11\n1 * * 0\nend 1\n"

@@ -1,0 +1,3 @@
+pub mod ImageLaws
+pub mod ReadLaws
+pub mod EditLaws

@@ -1,0 +1,34 @@
+-- The slot is cleared, the filter copied over its front, and the set number put behind it.
+use mathlib.Core.Path.{_∙_}
+use borrow.Author.Needs.{needs}
+use Rattle.plan.proofs.EditLaws.{rule-written}
+use Rattle.plan.proofs.write_rule.Statement.{statement}
+use Rattle.plan.proofs.write_rule.Tie as tie
+
+clear-requires : tie.Need-clear-requires
+clear-requires c κs = search needs
+
+copy-requires : tie.Need-copy-requires
+copy-requires c κs = search needs
+
+cast-put-word : tie.Need-cast-put-word
+cast-put-word c = search needs
+
+put-word-requires : tie.Need-put-word-requires
+put-word-requires c κs = search needs
+
+same-length : tie.Need-same-length
+same-length c = search needs
+
+returns : tie.Need-returns
+returns c =
+    let put = c .before .before in
+    let copy = put .before .before .before .before .before in
+    let clear = copy .before .before .before .before in
+    let g = clear .before .before .before .before in
+    put .put-word .ensures
+    ∙ rule-written (g .args .slot .now) (clear .clear .last .0) (copy .copy .last .0) (g .args .code .now) (g .args .set .0) (g .pre .0) (g .pre .1)
+    (clear .clear .ensures) (copy .copy .ensures)
+
+pub write-rule-spec : {M : Type 1} → statement M
+write-rule-spec = tie.close (tie.spec clear-requires copy-requires cast-put-word put-word-requires same-length returns)

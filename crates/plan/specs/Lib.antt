@@ -1,0 +1,4 @@
+pub mod Layout
+pub mod State
+pub mod Readings
+pub mod Edits

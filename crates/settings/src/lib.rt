@@ -1,0 +1,141 @@
+// RANGE of an opening's rooms and settings, and of a number: its class, its digits and its lookup.
+ghost use mathlib.Core.Path.{_≡_};
+ghost use lib.ListN.{length};
+ghost use Rattle.meaning.specs.Basics.{all, within, isDigit};
+ghost use Rattle.meaning.specs.Settings.{isClass, roomsInRange, settingsInRange, entityInRange, asdOrGrnInRange, lookupInRange, numberInRange, dialledInRange};
+use meaning::Class;
+use meaning::ClassOf;
+
+// Whether the rooms of an opening are in range.
+pub fn rooms_in_range(rooms: &[u8]) -> bool
+    requires { ⌜ length (now rooms) ≡ 4 ⌝ }
+    ensures { λ r. ⌜ r ≡ roomsInRange (now (rooms .entry)) ⌝ }
+{
+    let sets = buffer::word(rooms, 0);
+    if sets < 1 {
+        return false;
+    }
+    if 1024 < sets {
+        return false;
+    }
+    let rules = buffer::word(rooms, 2);
+    if rules < 1 {
+        return false;
+    }
+    rules <= 4096
+}
+
+// Whether each byte is an answer of the query.
+fn answers_in_range(answers: &[u8]) -> bool
+    ensures { λ r. ⌜ r ≡ all (within 1 4) (now (answers .entry)) ⌝ }
+{
+    let mut i = 0;
+    while i < answers.len() {
+        let x = answers[i];
+        if x < 1 {
+            return false;
+        }
+        if 4 < x {
+            return false;
+        }
+        i += 1;
+    }
+    true
+}
+
+// Whether the settings of an opening are in range.
+pub fn settings_in_range(settings: &[u8]) -> bool
+    requires { ⌜ length (now settings) ≡ 36 ⌝ }
+    ensures { λ r. ⌜ r ≡ settingsInRange (now (settings .entry)) ⌝ }
+{
+    if !buffer::digits_in_range(&settings[0..4], 1, 3) {
+        return false;
+    }
+    if !buffer::digits_in_range(&settings[4..20], 0, 15) {
+        return false;
+    }
+    if !buffer::digits_in_range(&settings[20..26], 0, 5) {
+        return false;
+    }
+    if !buffer::digits_in_range(&settings[26..32], 0, 5) {
+        return false;
+    }
+    answers_in_range(&settings[32..36])
+}
+
+// Whether a byte is a class.
+pub fn is_class(b: u8) -> bool
+    ensures { λ r. ⌜ r ≡ isClass b ⌝ }
+{
+    match Class::of(b) {
+        ClassOf::Known(_) => true,
+        ClassOf::Unknown => false,
+    }
+}
+
+// Whether the entity of a lookup is in range for its kind.
+fn entity_in_range(kind: u8, entity: &[u8]) -> bool
+    ensures { λ r. ⌜ r ≡ entityInRange kind (now (entity .entry)) ⌝ }
+{
+    if 2 <= kind {
+        buffer::digits_in_range(entity, 1, 15)
+    } else {
+        buffer::digits_in_range(entity, 0, 0)
+    }
+}
+
+// Whether the ASD or the GRN of a lookup is in range for its kind.
+fn asd_or_grn_in_range(kind: u8, digits: &[u8]) -> bool
+    ensures { λ r. ⌜ r ≡ asdOrGrnInRange kind (now (digits .entry)) ⌝ }
+{
+    if kind == 0 {
+        buffer::digits_in_range(digits, 0, 0)
+    } else {
+        buffer::digits_in_range(digits, 0, 10)
+    }
+}
+
+// Whether a lookup is in range.
+pub fn lookup_in_range(lookup: &[u8]) -> bool
+    requires { ⌜ length (now lookup) ≡ 39 ⌝ }
+    ensures { λ r. ⌜ r ≡ lookupInRange (now (lookup .entry)) ⌝ }
+{
+    let kind = lookup[0];
+    if 3 < kind {
+        return false;
+    }
+    if !entity_in_range(kind, &lookup[1..17]) {
+        return false;
+    }
+    if !asd_or_grn_in_range(kind, &lookup[17..28]) {
+        return false;
+    }
+    asd_or_grn_in_range(kind, &lookup[28..39])
+}
+
+// Whether the body of a number is in range.
+pub fn number_in_range(body: &[u8]) -> bool
+    requires { ⌜ length (now body) ≡ 73 ⌝ }
+    ensures { λ r. ⌜ r ≡ numberInRange (now (body .entry)) ⌝ }
+{
+    if !is_class(body[0]) {
+        return false;
+    }
+    if !buffer::digits_in_range(&body[1..34], 0, 32) {
+        return false;
+    }
+    lookup_in_range(&body[34..73])
+}
+
+// Whether a class and digits that come as themselves are in range.
+pub fn dialled_in_range(class: u8, digits: &[u8]) -> bool
+    ensures { λ r. ⌜ r ≡ dialledInRange class (now (digits .entry)) ⌝ }
+{
+    if !is_class(class) {
+        return false;
+    }
+    if 32 < digits.len() {
+        return false;
+    }
+    buffer::all_digits(digits)
+}
