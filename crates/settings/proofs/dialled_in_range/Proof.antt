@@ -26,7 +26,7 @@ all-digits-requires c κs = search needs
 
 returns-3 : tie.Need-returns-3
 unfolding dialledInRange
-returns-3 c = 
+returns-3 c =
     c .all-digits .ensures
     ∙ sym (rw (passed (c .before .before .before .is-class .ensures) (c .before .before .if1 .left), le-leb (length (c .before .before .before .before .before .args .digits .now)) 32 (c .before .if2 .left), and-true))
 

@@ -62,11 +62,15 @@ asd-or-grn-in-range-requires-2 c κs = search needs
 
 returns-4 : tie.Need-returns-4
 unfolding lookupInRange
-returns-4 c = 
+returns-4 c =
     let d = c .before .before .before .before .before .before in
     c .asd-or-grn-in-range2 .ensures
-    ∙ sym (rw (le-leb _ 3 (d .before .before .if1 .left), passed (d .entity-in-range .ensures) (c .before .before .before .before .before .if2 .left),
-      passed (c .before .before .before .asd-or-grn-in-range .ensures) (c .before .before .if3 .left), and-true))
+    ∙ sym (rw (
+      le-leb _ 3 (d .before .before .if1 .left),
+      passed (d .entity-in-range .ensures) (c .before .before .before .before .before .if2 .left),
+      passed (c .before .before .before .asd-or-grn-in-range .ensures) (c .before .before .if3 .left),
+      and-true,
+    ))
 
 pub lookup-in-range-spec : {M : Type 1} → statement M
 lookup-in-range-spec =

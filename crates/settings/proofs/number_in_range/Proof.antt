@@ -48,7 +48,7 @@ lookup-in-range-requires c κs = search needs
 
 returns-3 : tie.Need-returns-3
 unfolding numberInRange
-returns-3 c = 
+returns-3 c =
     let d = c .before .before .before in
     c .lookup-in-range .ensures
     ∙ sym (rw (passed (d .before .before .before .is-class .ensures) (d .before .before .if1 .left), passed (d .digits-in-range .ensures) (c .before .before .if2 .left), and-true))

@@ -1,0 +1,218 @@
+// A set's actions as they lie in its content, and the fit of a rule and a set.
+use ranges::cas_of;
+ghost use mathlib.Core.Path.{_≡_};
+ghost use Prim.Native.Nat.{_≤_};
+ghost use lib.ListN.{length};
+ghost use Rattle.meaning.specs.Basics.{any, count, isEmpty, contains};
+ghost use Rattle.meaning.specs.Actions.{isX, valueOf, casOf, codesOf, actionsOf};
+ghost use Rattle.meaning.specs.Groups.{isSet, fixedOf, fixedSum, fpfxMeetsPrefix, sumFits, casFit};
+ghost use Rattle.actions.specs.Reading.{actionOf, ActionAt, CodeAt, hasCode};
+
+// The conditioning code FPFX.
+pub const FPFX: u8 = 14;
+
+// A conditioning action; code 0 stands behind the last.
+pub struct ConditioningAction {
+    pub code: u8,
+    pub count: u8,
+}
+
+// The conditioning action at place i of a list's bytes.
+pub fn action_at(cas: &[u8], i: usize) -> ConditioningAction
+    requires { ⌜ i ≤ length (now cas) ⌝ }
+    ensures { λ r. ⌜ ActionAt (now (cas .entry)) i r ⌝ }
+{
+    if cas.len() - i < 2 {
+        return ConditioningAction { code: 0, count: 0 };
+    }
+    ConditioningAction {
+        code: cas[i],
+        count: cas[i + 1],
+    }
+}
+
+// The code at place i of a list's bytes; 0 behind the last.
+pub fn code_at(codes: &[u8], i: usize) -> u8
+    requires { ⌜ i ≤ length (now codes) ⌝ }
+    ensures { λ r. ⌜ CodeAt (now (codes .entry)) i r ⌝ }
+{
+    if i < codes.len() { codes[i] } else { 0 }
+}
+
+pub fn no_conditioning(cas: &[u8]) -> bool
+    ensures { λ r. ⌜ r ≡ isEmpty (casOf (now (cas .entry))) ⌝ }
+{
+    let a = action_at(cas, 0);
+    a.code == 0
+}
+
+pub fn no_codes(codes: &[u8]) -> bool
+    ensures { λ r. ⌜ r ≡ isEmpty (codesOf (now (codes .entry))) ⌝ }
+{
+    code_at(codes, 0) == 0
+}
+
+// The value that a conditioning code sets, by its formatting code; 0 for none.
+pub fn value_of(code: u8) -> u8
+    ensures { λ r. ⌜ r ≡ valueOf code ⌝ }
+{
+    match code {
+        2..=6 => code - 1,
+        7..=10 => code,
+        11..=13 => code - 8,
+        14 => 6,
+        15 => 1,
+        _ => 0,
+    }
+}
+
+// An X action: SNX, DNX, ZNX.
+pub fn is_x(a: ConditioningAction) -> bool
+    ensures { λ r. ⌜ r ≡ isX (actionOf a) ⌝ }
+{
+    11 <= a.code && a.code <= 13
+}
+
+// Some conditioning action sets the value v.
+pub fn is_set(cas: &[u8], v: u8) -> bool
+    ensures { λ r. ⌜ r ≡ isSet v (casOf (now (cas .entry))) ⌝ }
+{
+    let mut i = 0;
+    loop {
+        let a = action_at(cas, i);
+        if a.code == 0 {
+            return false;
+        }
+        if value_of(a.code) == v {
+            return true;
+        }
+        i += 2;
+    }
+}
+
+// Some conditioning action has the code.
+pub fn has_code(cas: &[u8], code: u8) -> bool
+    ensures { λ r. ⌜ r ≡ hasCode code (casOf (now (cas .entry))) ⌝ }
+{
+    let mut i = 0;
+    loop {
+        let a = action_at(cas, i);
+        if a.code == 0 {
+            return false;
+        }
+        if a.code == code {
+            return true;
+        }
+        i += 2;
+    }
+}
+
+// The code stands in a list of codes.
+pub fn contains(codes: &[u8], code: u8) -> bool
+    ensures { λ r. ⌜ r ≡ contains code (codesOf (now (codes .entry))) ⌝ }
+{
+    let mut i = 0;
+    loop {
+        let c = code_at(codes, i);
+        if c == 0 {
+            return false;
+        }
+        if code == c {
+            return true;
+        }
+        i += 1;
+    }
+}
+
+// How many X actions there are.
+pub fn count_x(cas: &[u8]) -> usize
+    ensures { λ r. ⌜ r ≡ count isX (casOf (now (cas .entry))) ⌝ }
+{
+    let mut n: usize = 0;
+    let mut i = 0;
+    loop {
+        let a = action_at(cas, i);
+        if a.code == 0 {
+            return n;
+        }
+        if is_x(a) {
+            n += 1;
+        }
+        i += 2;
+    }
+}
+
+// The digits that an action takes for certain.
+pub fn fixed_of(a: ConditioningAction, prefix: usize) -> usize
+    ensures { λ r. ⌜ r ≡ fixedOf prefix (actionOf a) ⌝ }
+{
+    if a.code <= 10 {
+        return a.count as usize;
+    }
+    if a.code == FPFX { prefix } else { 0 }
+}
+
+// F: the sum of fixed counts and of the prefix length for FPFX.
+pub fn fixed_sum(cas: &[u8], prefix: usize) -> usize
+    requires { ⌜ (length (now cas) ≤ 24) × (prefix ≤ 16) ⌝ }
+    ensures { λ r. ⌜ r ≡ fixedSum prefix (casOf (now (cas .entry))) ⌝ }
+{
+    let mut sum: usize = 0;
+    let mut i = 0;
+    loop {
+        let a = action_at(cas, i);
+        if a.code == 0 {
+            return sum;
+        }
+        sum += fixed_of(a, prefix);
+        i += 2;
+    }
+}
+
+pub fn has_x(cas: &[u8]) -> bool
+    ensures { λ r. ⌜ r ≡ any isX (casOf (now (cas .entry))) ⌝ }
+{
+    count_x(cas) != 0
+}
+
+// FPFX, where present, meets a prefix of at least one digit.
+fn fpfx_meets_prefix(cas: &[u8], prefix: usize) -> bool
+    ensures { λ r. ⌜ r ≡ fpfxMeetsPrefix prefix (casOf (now (cas .entry))) ⌝ }
+{
+    if prefix == 0 {
+        return !has_code(cas, FPFX);
+    }
+    true
+}
+
+// F fits a stated length, or 0 for the wildcard, with or without an X action.
+fn sum_fits(len: usize, x: bool, f: usize) -> bool
+    ensures { λ r. ⌜ r ≡ sumFits len x f ⌝ }
+{
+    if len == 0 {
+        return x && f <= 31;
+    }
+    if x { f < len } else { f == len }
+}
+
+// A rule with a prefix and a length of so many digits fits a set's conditioning actions.
+pub fn cas_fit(cas: &[u8], prefix: usize, len: usize) -> bool
+    requires { ⌜ (length (now cas) ≤ 24) × (prefix ≤ 16) ⌝ }
+    ensures { λ r. ⌜ r ≡ casFit prefix len (casOf (now (cas .entry))) ⌝ }
+{
+    if no_conditioning(cas) {
+        return true;
+    }
+    if !fpfx_meets_prefix(cas, prefix) {
+        return false;
+    }
+    sum_fits(len, has_x(cas), fixed_sum(cas, prefix))
+}
+
+// The same, over a set's content.
+pub fn fits_content(prefix: usize, len: usize, content: &[u8]) -> bool
+    requires { ⌜ (length (now content) ≡ 45) × (prefix ≤ 16) ⌝ }
+    ensures { λ r. ⌜ r ≡ casFit prefix len (actionsOf (now (content .entry)) .cas) ⌝ }
+{
+    cas_fit(cas_of(content), prefix, len)
+}

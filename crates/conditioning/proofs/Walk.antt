@@ -1,0 +1,53 @@
+-- One step of conditioning along the CAs, and the stretch of a filter and a set.
+use Prim.Native.Nat.{ℕ, _+_, _-_, _≤_}
+use native.Mathlib.Omega.{arith}
+use native.Mathlib.Nat.{add-sub-cancel-left}
+use mathlib.Core.Path.{_≡_, refl, ap}
+use mathlib.Core.Logic.{_≢_}
+use mathlib.Core.Bool.{Bool, true, false, _||_, and-true, and-false}
+use mathlib.Core.List.{List, _∷_}
+use lib.ListN.{length, take, drop}
+use lib.Dec.{eqb}
+use borrow.Author.Tests.{ltb-false, eq-eqb, ne-eqb}
+use Rattle.meaning.specs.Filters.{Filter}
+use Rattle.meaning.specs.Actions.{CA, isX, valueOf, ActionSet}
+use Rattle.meaning.specs.Groups.{fixedOf}
+use Rattle.meaning.specs.Conditioning.{width, meetsTooFew, short, Stretch, takesValue, digitsAt}
+use Rattle.meaning.specs.Reads.{stretchBy}
+use Rattle.meaning.specs.declared.Span.{Span}
+use Rattle.meaning.proofs.Tests.{is-false, false-is, or-left-false, or-right-false}
+use Rattle.ranges.proofs.Lists.{on}
+use Rattle.conditioning.specs.Spans.{stretchIn, Covers}
+
+pub enough : (prefix left : ℕ) (a : CA) → meetsTooFew prefix left a ≡ false → width prefix left a ≤ left
+enough prefix left a e = go (isX a) refl
+  where
+    go : (x : Bool) → isX a ≡ x → width prefix left a ≤ left
+    go true p = rw p (omega arith)
+    go false p = rw p (ltb-false left (fixedOf prefix a) (rw p at e))
+
+-- where the digits are enough for a list, its first action takes no more than are left, and the rest is enough for those behind it
+pub enough-for : (prefix left : ℕ) {w : ℕ} {a : CA} {xs ys : List CA} → w ≡ width prefix left a → xs ≡ a ∷ ys → short prefix left xs ≡ false
+    → (w ≤ left) × (short prefix (left - w) ys ≡ false)
+enough-for prefix left {w} {a} {xs} {ys} p q e =
+    let few = meetsTooFew prefix left a in
+    let rest = short prefix (left - width prefix left a) ys in
+    let t = false-is (few || rest) (on (short prefix left) q e) in
+    rw p (enough prefix left a (is-false few (or-left-false few rest t)), is-false rest (or-right-false few rest t))
+
+-- CCDEF takes no value, and any other action its own
+pub ccdef-takes-none : (v : ℕ) (a : CA) → a .code ≡ 15 → takesValue v a ≡ false
+ccdef-takes-none v a e = rw (eq-eqb (a .code) 15 e, and-false)
+
+pub takes-its-value : (v : ℕ) (a : CA) → a .code ≢ 15 → takesValue v a ≡ eqb (valueOf (a .code)) v
+takes-its-value v a h = rw (ne-eqb (a .code) 15 h, and-true)
+
+-- a span lends the digits of the stretch that it covers
+pub covered : {n : ℕ} {s : Stretch} {r : Span} (ds : List ℕ) → Covers n s r
+    → take (r .start + r .count - r .start) (drop (r .start) ds) ≡ digitsAt s ds
+covered {n} {s} {r} ds h =
+    rw (add-sub-cancel-left (r .start) (r .count)) (ap (λ (x : Span). take (x .count) (drop (x .start) ds)) (h .same))
+
+pub stretch-by : (v n : ℕ) (f : Filter) (s : ActionSet) → stretchBy v n f s ≡ stretchIn v (length (f .prefix)) n (s .cas)
+unfolding stretchBy
+stretch-by v n f s = refl

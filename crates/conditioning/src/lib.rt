@@ -1,0 +1,111 @@
+// Conditioning: which stretch of the incoming number each conditioning action takes.
+use actions::ConditioningAction;
+use actions::action_at;
+use actions::fixed_of;
+use actions::is_x;
+use actions::value_of;
+use meaning::Span;
+ghost use mathlib.Core.Path.{_≡_};
+ghost use mathlib.Core.Bool.{false};
+ghost use lib.ListN.{length};
+ghost use Rattle.meaning.specs.Actions.{casOf};
+ghost use Rattle.meaning.specs.Conditioning.{width, meetsTooFew, short, takesValue, stretchOf, digitsAt};
+ghost use Rattle.actions.specs.Reading.{actionOf};
+ghost use Rattle.conditioning.specs.Spans.{stretchIn, Covers};
+
+const CCDEF: u8 = 15;
+
+// How many digits an action takes where `left` are left.
+fn width(a: ConditioningAction, prefix: usize, left: usize) -> usize
+    ensures { λ r. ⌜ r ≡ width prefix left (actionOf a) ⌝ }
+{
+    if is_x(a) {
+        return left;
+    }
+    fixed_of(a, prefix)
+}
+
+// Too few digits are left for an action.
+fn meets_too_few(a: ConditioningAction, prefix: usize, left: usize) -> bool
+    ensures { λ r. ⌜ r ≡ meetsTooFew prefix left (actionOf a) ⌝ }
+{
+    if is_x(a) {
+        return left == 0;
+    }
+    left < fixed_of(a, prefix)
+}
+
+// SHORT: some action meets too few of n digits.
+pub fn is_short(cas: &[u8], prefix: usize, n: usize) -> bool
+    ensures { λ r. ⌜ r ≡ short prefix n (casOf (now (cas .entry))) ⌝ }
+{
+    let mut left = n;
+    let mut i = 0;
+    loop {
+        let a = action_at(cas, i);
+        if a.code == 0 {
+            return false;
+        }
+        if meets_too_few(a, prefix, left) {
+            return true;
+        }
+        left -= width(a, prefix, left);
+        i += 2;
+    }
+}
+
+// The action takes the value v from the number; CCDEF takes none.
+fn takes_value(a: ConditioningAction, v: u8) -> bool
+    ensures { λ r. ⌜ r ≡ takesValue v (actionOf a) ⌝ }
+{
+    if a.code == CCDEF {
+        return false;
+    }
+    value_of(a.code) == v
+}
+
+// The stretch that the value v covers of n digits that are enough.
+pub fn span_of(cas: &[u8], prefix: usize, n: usize, v: u8) -> Span
+    requires { ⌜ short prefix n (casOf (now cas)) ≡ false ⌝ }
+    ensures { λ r. ⌜ Covers n (stretchOf v prefix n (casOf (now (cas .entry)))) r ⌝ }
+{
+    let mut at = 0;
+    let mut left = n;
+    let mut i = 0;
+    loop {
+        let a = action_at(cas, i);
+        if a.code == 0 {
+            return Span { start: 0, count: 0 };
+        }
+        let w = width(a, prefix, left);
+        if takes_value(a, v) {
+            return Span {
+                start: at,
+                count: w,
+            };
+        }
+        at += w;
+        left -= w;
+        i += 2;
+    }
+}
+
+// The stretch that the value v covers of n digits; empty where they are too few.
+pub fn span_in(cas: &[u8], prefix: usize, n: usize, v: u8) -> Span
+    ensures { λ r. ⌜ Covers n (stretchIn v prefix n (casOf (now (cas .entry)))) r ⌝ }
+{
+    if is_short(cas, prefix, n) {
+        return Span { start: 0, count: 0 };
+    }
+    span_of(cas, prefix, n, v)
+}
+
+// The very stretch of the digits that the value v covers.
+pub fn stretch_in<'a>(cas: &[u8], prefix: usize, digits: &'a [u8], v: u8) -> &'a [u8]
+    ensures { λ r. ⌜ now r ≡ digitsAt (stretchIn v prefix (length (now (digits .entry))) (casOf (now (cas .entry)))) (now (digits .entry)) ⌝ }
+{
+    let s = span_in(cas, prefix, digits.len(), v);
+    let start = s.start;
+    let end = start + s.count;
+    &digits[start..end]
+}

@@ -1,0 +1,47 @@
+-- The list is its first action and what is left behind it.
+use native.Mathlib.Omega.{arith}
+use mathlib.Core.Path.{sym, ap, _∙_}
+use borrow.Author.Needs.{needs}
+use Rattle.meaning.specs.Groups.{precedenceNeverRises}
+use Rattle.ranges.proofs.Lists.{rest-is}
+use Rattle.groups.proofs.precedence_never_rises.Statement.{statement}
+use Rattle.groups.proofs.precedence_never_rises.Tie as tie
+
+code-at-requires : tie.Need-code-at-requires
+code-at-requires c κs = search needs
+
+returns : tie.Need-returns
+returns c = sym (ap precedenceNeverRises (c .before .code-at .ensures .ends (c .if1 .taken)))
+
+precedence-requires : tie.Need-precedence-requires
+precedence-requires c κs = search needs
+
+sub-never-rises-from : tie.Need-sub-never-rises-from
+sub-never-rises-from c = omega (arith, c .before .before .code-at .ensures .inside (c .before .if1 .left))
+
+part-never-rises-from-start : tie.Need-part-never-rises-from-start
+part-never-rises-from-start c = omega (arith, c .before .before .code-at .ensures .inside (c .before .if1 .left))
+
+part-never-rises-from-end : tie.Need-part-never-rises-from-end
+part-never-rises-from-end c = omega (arith, c .before .before .code-at .ensures .inside (c .before .if1 .left))
+
+never-rises-from-requires : tie.Need-never-rises-from-requires
+never-rises-from-requires c κs = search needs
+
+returns-2 : tie.Need-returns-2
+returns-2 c =
+    let e = rw (c .before .before .precedence .ensures, rest-is (c .before .before .before .before .before .before .args .sas .now) 1) at (c .never-rises-from .ensures) in
+    e ∙ sym (ap precedenceNeverRises (c .before .before .before .before .code-at .ensures .goes (c .before .before .before .if1 .left)))
+
+pub precedence-never-rises-spec : {M : Type 1} → statement M
+precedence-never-rises-spec =
+    tie.close
+    (tie.spec
+    code-at-requires
+    returns
+    precedence-requires
+    sub-never-rises-from
+    part-never-rises-from-start
+    part-never-rises-from-end
+    never-rises-from-requires
+    returns-2)
