@@ -1,0 +1,4 @@
+pub mod PromiseLaws
+pub mod FitLaws
+pub mod Chains
+pub mod ArmLaws

@@ -1,0 +1,113 @@
+-- How a call meets its promise: it is refused by its first check, by the examiner, or by one of its own checks, or it leaves the image of what it made.
+use Prim.Native.Nat.{ℕ, zero, suc, _+_, _≤_, _<_}
+use mathlib.Core.Path.{_≡_, refl, ap, ap₂, sym, subst, _∙_}
+use mathlib.Core.Logic.{_≢_}
+use mathlib.Core.Bool.{Bool, true, false, not}
+use mathlib.Core.List.{List, [], _∷_, _++_}
+use mathlib.Core.Option.{Option, none, some}
+use native.Mathlib.Omega.{arith}
+use lib.ListN.{length, take, drop, length-take}
+use lib.Seq.{take-take, take-all, length-take-le}
+use lib.Dec.{T, ltb, eqb}
+use borrow.Author.Tests.{lt-ltb, le-ltb, ne-eqb}
+use Rattle.meaning.specs.Basics.{if_then_else_, isZero}
+use Rattle.meaning.specs.Refusals.{CUT, PLAN, Line, firstOf}
+use Rattle.meaning.specs.Settings.{Rooms, roomsOf, bytesNeeded}
+use Rattle.meaning.specs.Plan.{Plan, roomsIn}
+use Rattle.meaning.specs.Calls.{Operation, openPlan, addSet, replaceSet, removeSet, addRule, changeRule, removeRule, Call, kindOf, bodyLength, isCut, bodyOf, lacksBytes, linesOf, refusal, made, isAccepted}
+use Rattle.plan.specs.Layout.{image, planOf}
+use Rattle.plan.specs.State.{soundOf, stateOf, restOf}
+use Rattle.plan.proofs.ImageLaws.{state-some, state-none}
+use Rattle.changes.specs.Promise.{numberFor, memoryOf, memoryAfter, Provides, calls}
+
+-- REFUSED
+
+pub refused : (c : Call) (m : List ℕ) (n : ℕ) → numberFor c m ≡ n → n ≢ 0 → Provides c m m n
+unfolding memoryAfter
+refused c m n e h = record { number-is = sym e; memory-is = sym (rw (ne-eqb (numberFor c m) 0 (λ q. h (sym e ∙ q)))) }
+
+-- the body is shorter than its kind says
+pub cut : (o : Operation) (m b : List ℕ) → length b < bodyLength (kindOf o) → Provides (calls o b) m m CUT
+unfolding refusal
+cut o m b h = refused (calls o b) m CUT (rw (lt-ltb (length b) (bodyLength (kindOf o)) h)) (λ e. omega (arith, e))
+
+-- the number of a call that is not cut is that of its own checks
+pub number-whole : (o : Operation) (m b : List ℕ) → bodyLength (kindOf o) ≤ length b
+    → numberFor (calls o b) m ≡ firstOf (linesOf o (lacksBytes (length m)) (stateOf m) (take (bodyLength (kindOf o)) b))
+unfolding refusal
+number-whole o m b h = rw (le-ltb (length b) (bodyLength (kindOf o)) h)
+
+-- ACCEPTED
+
+pub accepted : (c : Call) (m : List ℕ) (q : Plan) → numberFor c m ≡ 0 → made (c .operation) (stateOf m) (bodyOf c) ≡ some q
+    → Provides c m (image q ++ drop (bytesNeeded (roomsIn q)) m) 0
+unfolding memoryAfter
+accepted c m q e f = record { number-is = sym e; memory-is = sym (rw (e, f)) }
+
+-- LONGER BODIES: what is behind is not looked at
+
+module _ (o : Operation) (m b : List ℕ) (h : bodyLength (kindOf o) ≤ length b) where
+  same-body : bodyOf (calls o (take (bodyLength (kindOf o)) b)) ≡ bodyOf (calls o b)
+  same-body = take-take (bodyLength (kindOf o)) (bodyLength (kindOf o)) b (omega arith)
+
+  same-number : numberFor (calls o (take (bodyLength (kindOf o)) b)) m ≡ numberFor (calls o b) m
+  same-number =
+      number-whole o m (take (bodyLength (kindOf o)) b) (rw (length-take-le (bodyLength (kindOf o)) b h) (omega arith))
+      ∙ (ap (λ (x : List ℕ). firstOf (linesOf o (lacksBytes (length m)) (stateOf m) x)) same-body ∙ sym (number-whole o m b h))
+
+  same-memory : memoryAfter (calls o (take (bodyLength (kindOf o)) b)) m ≡ memoryAfter (calls o b) m
+  unfolding memoryAfter
+  same-memory = ap₂ (λ (k : ℕ) (x : List ℕ). if isZero k then memoryOf (made o (stateOf m) x) m else m) same-number same-body
+
+  pub longer : (after : List ℕ) (number : ℕ) → Provides (calls o (take (bodyLength (kindOf o)) b)) m after number → Provides (calls o b) m after number
+  longer after number p = record { number-is = p .number-is ∙ same-number; memory-is = p .memory-is ∙ same-memory }
+
+-- OVER AN UNSOUND MEMORY every call but opening is refused with PLAN
+
+abbrev pub isOpening : Operation → Bool
+isOpening openPlan = true
+isOpening addSet = false
+isOpening replaceSet = false
+isOpening removeSet = false
+isOpening addRule = false
+isOpening changeRule = false
+isOpening removeRule = false
+
+plan-lines : (o : Operation) (lacks : List ℕ → Bool) (b : List ℕ) → isOpening o ≡ false → firstOf (linesOf o lacks none b) ≡ PLAN
+plan-lines openPlan lacks b e = absurd (let z : _≡_ {A = ℕ} 0 1 = cc in omega arith)
+plan-lines addSet lacks b e = refl
+plan-lines replaceSet lacks b e = refl
+plan-lines removeSet lacks b e = refl
+plan-lines addRule lacks b e = refl
+plan-lines changeRule lacks b e = refl
+plan-lines removeRule lacks b e = refl
+
+pub unsound : (o : Operation) (m b : List ℕ) → isOpening o ≡ false → bodyLength (kindOf o) ≤ length b → soundOf m ≡ false → Provides (calls o b) m m PLAN
+unsound o m b e h s =
+    refused (calls o b) m PLAN
+    (number-whole o m b h ∙ (ap (λ (t : Option Plan). firstOf (linesOf o (lacksBytes (length m)) t (take (bodyLength (kindOf o)) b))) (state-none m s)
+    ∙ plan-lines o (lacksBytes (length m)) (take (bodyLength (kindOf o)) b) e))
+    (λ q. omega (arith, q))
+
+-- OVER A SOUND MEMORY, with a body of just its length
+
+module _ (o : Operation) (m b : List ℕ) (size : length b ≡ bodyLength (kindOf o)) (s : soundOf m ≡ true) where
+  whole-body : take (bodyLength (kindOf o)) b ≡ b
+  whole-body = take-all (bodyLength (kindOf o)) b (omega arith)
+
+  pub number-known : numberFor (calls o b) m ≡ firstOf (linesOf o (lacksBytes (length m)) (some (planOf m)) b)
+  number-known =
+      number-whole o m b (omega arith)
+      ∙ ap₂ (λ (t : Option Plan) (x : List ℕ). firstOf (linesOf o (lacksBytes (length m)) t x)) (state-some m s) whole-body
+
+  -- one of its own checks refuses
+  pub known-refused : (number : ℕ) → firstOf (linesOf o (lacksBytes (length m)) (some (planOf m)) b) ≡ number → number ≢ 0 → Provides (calls o b) m m number
+  known-refused number e h = refused (calls o b) m number (number-known ∙ e) h
+
+  -- none does: the image of what it made, with the rooms as they were, and the rest
+  pub known-accepted : (q : Plan) → firstOf (linesOf o (lacksBytes (length m)) (some (planOf m)) b) ≡ 0 → made o (some (planOf m)) b ≡ some q
+      → q .rooms ≡ planOf m .rooms → Provides (calls o b) m (image q ++ restOf m) 0
+  unfolding planOf
+  known-accepted q e f r =
+      let p = accepted (calls o b) m q (number-known ∙ e) (ap₂ (made o) (state-some m s) whole-body ∙ f) in
+      subst (λ (k : ℕ). Provides (calls o b) m (image q ++ drop k m) 0) (ap (λ (x : List ℕ). bytesNeeded (roomsOf x)) r) p

@@ -1,0 +1,47 @@
+-- Lists of bytes: their parts, unused ones, and a two-byte number, whose bytes are found again since they are bytes.
+use Prim.Native.Nat.{ℕ, zero, suc, _+_, _*_, _/_, _%_, _≤_, _<_}
+use mathlib.Core.Path.{_≡_, ap, sym, _∙_}
+use mathlib.Core.List.{List, [], _∷_, _++_}
+use native.Mathlib.Omega.{arith}
+use native.Mathlib.Nat.{div-add-mod', mod-lt}
+use lib.ListN.{length, take, drop, getD, length-drop}
+use lib.Seq.{take-all, length-take-le, getD-drop}
+use lib.Dec.{T, lit<}
+use Rattle.meaning.specs.Basics.{all, isZero, word, part}
+use Rattle.buffer.specs.Zeros.{zeros}
+use Rattle.buffer.proofs.ZeroLaws.{all-zeros}
+use Rattle.ranges.proofs.Lists.{next-two}
+use Rattle.plan.specs.Layout.{wordBytes}
+
+-- every element is a byte
+abbrev pub Bytes : List ℕ → Type 0
+Bytes m = (i : ℕ) → getD m i 0 < 256
+
+pub bytes-drop : (a : ℕ) (m : List ℕ) → Bytes m → Bytes (drop a m)
+bytes-drop a m h i = rw (getD-drop a m i 0) (h (a + i))
+
+pub bytes-take : (n : ℕ) (m : List ℕ) → Bytes m → Bytes (take n m)
+bytes-take zero m h i = lit< tt
+bytes-take (suc n) [] h i = lit< tt
+bytes-take (suc n) (x ∷ m) h zero = h 0
+bytes-take (suc n) (x ∷ m) h (suc i) = bytes-take n m (λ j. h (suc j)) i
+
+-- a number's two bytes are those that it was read from
+pub word-again : (b : List ℕ) (at : ℕ) → at + 1 < length b → Bytes b → wordBytes (word b at) ++ drop (at + 2) b ≡ drop at b
+word-again b at inside h =
+    let n : ℕ = word b at in
+    let low-byte : getD b (at + 1) 0 < 256 = h (at + 1) in
+    let whole : n / 256 * 256 + n % 256 ≡ n = div-add-mod' n 256 in
+    let small : n % 256 < 256 = mod-lt n (lit< tt) in
+    let high : n / 256 ≡ getD b at 0 = omega arith in
+    let low : n % 256 ≡ getD b (at + 1) 0 = omega arith in
+    rw (high, low) (sym (next-two b at inside))
+
+-- a part of unused bytes
+pub part-zeros : (a n : ℕ) (m : List ℕ) → a + n ≤ length m → T (all isZero (part a n m)) → part a n m ≡ zeros n
+part-zeros a n m h t = all-zeros (part a n m) t ∙ ap zeros (length-take-le n (drop a m) (rw (length-drop a m) (omega arith)))
+
+pub last-zeros : (a n : ℕ) (m : List ℕ) → length m ≡ a + n → T (all isZero (part a n m)) → drop a m ≡ zeros n
+last-zeros a n m e t =
+    let long : length (drop a m) ≤ n = rw (length-drop a m) (omega arith) in
+    sym (take-all n (drop a m) long) ∙ part-zeros a n m (omega arith) t

@@ -1,0 +1,93 @@
+-- Each answer is the test that failed, or the last one; rules that pass can be put in order.
+use mathlib.Core.Path.{sym, _∙_}
+use Prim.Native.Nat.{_*_}
+use mathlib.Core.Bool.{and-true}
+use Rattle.meaning.proofs.Tests.{all-false, true-is}
+use Rattle.buffer.specs.Slots.{slots}
+use Rattle.buffer.proofs.SlotLaws.{wide-slots}
+use Rattle.ranges.proofs.Lists.{rest-is}
+use Rattle.examiner.specs.Examined.{areasTests, areasPass}
+use Rattle.examiner.proofs.RuleSlots.{prefixes-fit}
+use Rattle.examiner.proofs.Answers.{failed, passed}
+use borrow.Author.Needs.{needs}
+use Rattle.examiner.proofs.areas_pass.Statement.{statement}
+use Rattle.examiner.proofs.areas_pass.Tie as tie
+
+slots-pass-requires : tie.Need-slots-pass-requires
+slots-pass-requires c κs = search needs
+
+returns : tie.Need-returns
+unfolding areasPass
+returns c =
+    let a = c .before .before .before .before .args in
+    sym (all-false 0 (areasTests (a .room) (a .sets .now) (a .count) (a .rules .now)) (failed (c .before .slots-pass .ensures) (c .if1 .taken)))
+
+rules-pass-requires : tie.Need-rules-pass-requires
+rules-pass-requires c κs = search needs
+
+returns-2 : tie.Need-returns-2
+unfolding areasPass
+returns-2 c =
+    let a = c .before .before .before .before .before .before .args in
+    sym (all-false 1 (areasTests (a .room) (a .sets .now) (a .count) (a .rules .now)) (failed (c .before .rules-pass .ensures) (c .if2 .taken)))
+
+rules-rise-requires : tie.Need-rules-rise-requires
+rules-rise-requires c κs =
+    let g = c .before .before .before .before .before .before in
+    let a = g .args in
+    let wide = wide-slots 24 (a .count) (a .rules .now) (g .pre .rule-slots) in
+    let all-passed = true-is _ (passed (c .before .rules-pass .ensures) (c .if2 .left)) in
+    record { few = g .pre .few; room = g .pre .rule-slots; prefixes = prefixes-fit (a .room) (a .sets .now) (slots 24 (a .count) (a .rules .now)) wide all-passed }
+
+returns-3 : tie.Need-returns-3
+unfolding areasPass
+returns-3 c =
+    let a = c .before .before .before .before .before .before .before .before .args in
+    sym (all-false 2 (areasTests (a .room) (a .sets .now) (a .count) (a .rules .now)) (failed (c .before .rules-rise .ensures) (c .if3 .taken)))
+
+mul-free : tie.Need-mul-free
+mul-free c = search needs
+
+sub-all-zero : tie.Need-sub-all-zero
+sub-all-zero c = search needs
+
+part-all-zero-start : tie.Need-part-all-zero-start
+part-all-zero-start c = search needs
+
+part-all-zero-end : tie.Need-part-all-zero-end
+part-all-zero-end c = search needs
+
+all-zero-requires : tie.Need-all-zero-requires
+all-zero-requires c κs = search needs
+
+returns-4 : tie.Need-returns-4
+unfolding areasPass
+returns-4 c =
+    let d = c .before .before .before in
+    let a = d .before .before .before .before .before .before .before .args in
+    let all-passed = d .before .before in
+    c .all-zero .ensures
+    ∙ rw (rest-is (a .rules .now) (24 * a .count))
+    (sym (rw (
+      passed (all-passed .before .before .slots-pass .ensures) (all-passed .before .if1 .left),
+      passed (all-passed .rules-pass .ensures) (d .before .if2 .left),
+      passed (d .rules-rise .ensures) (c .before .before .if3 .left),
+      and-true,
+    )))
+
+pub areas-pass-spec : {M : Type 1} → statement M
+areas-pass-spec =
+    tie.close
+    (tie.spec
+    slots-pass-requires
+    returns
+    rules-pass-requires
+    returns-2
+    rules-rise-requires
+    returns-3
+    mul-free
+    sub-all-zero
+    part-all-zero-start
+    part-all-zero-end
+    all-zero-requires
+    returns-4)

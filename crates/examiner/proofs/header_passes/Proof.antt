@@ -1,0 +1,57 @@
+-- Each answer is the test that failed, or the last one.
+use mathlib.Core.Path.{sym, _∙_}
+use mathlib.Core.Bool.{and-true}
+use borrow.Author.Tests.{le-leb, lt-leb}
+use Rattle.meaning.proofs.Tests.{all-false}
+use Rattle.examiner.specs.Examined.{headerTests, headerPasses}
+use Rattle.examiner.proofs.Answers.{failed, passed}
+use borrow.Author.Needs.{needs}
+use Rattle.examiner.proofs.header_passes.Statement.{statement}
+use Rattle.examiner.proofs.header_passes.Tie as tie
+
+returns : tie.Need-returns
+unfolding headerPasses
+returns c = sym (all-false 0 (headerTests (c .before .before .args .memory .now)) (lt-leb 64 _ (c .if1 .taken)))
+
+fixed-pass-requires : tie.Need-fixed-pass-requires
+fixed-pass-requires c κs = search needs
+
+returns-2 : tie.Need-returns-2
+unfolding headerPasses
+returns-2 c =
+    sym (all-false 1 (headerTests (c .before .before .before .before .args .memory .now)) (failed (c .before .fixed-pass .ensures) (c .if2 .taken)))
+
+opening-passes-requires : tie.Need-opening-passes-requires
+opening-passes-requires c κs = search needs
+
+returns-3 : tie.Need-returns-3
+unfolding headerPasses
+returns-3 c =
+    sym (all-false 2 (headerTests (c .before .before .before .before .before .before .args .memory .now)) (failed (c .before .opening-passes .ensures) (c .if3 .taken)))
+
+sizes-pass-requires : tie.Need-sizes-pass-requires
+sizes-pass-requires c κs = search needs
+
+returns-4 : tie.Need-returns-4
+unfolding headerPasses
+returns-4 c =
+    let d = c .before .before in
+    c .sizes-pass .ensures
+    ∙ sym (rw (
+      le-leb 64 _ (d .before .before .before .if1 .left),
+      passed (d .before .before .fixed-pass .ensures) (d .before .if2 .left),
+      passed (d .opening-passes .ensures) (c .before .if3 .left),
+      and-true,
+    ))
+
+pub header-passes-spec : {M : Type 1} → statement M
+header-passes-spec =
+    tie.close
+    (tie.spec
+    returns
+    fixed-pass-requires
+    returns-2
+    opening-passes-requires
+    returns-3
+    sizes-pass-requires
+    returns-4)

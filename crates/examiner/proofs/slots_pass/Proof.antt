@@ -1,0 +1,85 @@
+-- The slots before i have passed, so those from i on decide.
+use Prim.Native.Nat.{_≤_, _-_, zero-le}
+use mathlib.Core.Path.{refl, sym}
+use native.Mathlib.Omega.{arith}
+use borrow.Author.Tests.{not-true, not-false}
+use Rattle.buffer.specs.Slots.{slots}
+use Rattle.buffer.proofs.Passing.{Passed, slot-fail, slot-pass, slot-done}
+use Rattle.examiner.specs.Examined.{slotTest}
+use borrow.Author.Needs.{needs}
+use Rattle.examiner.proofs.slots_pass.Statement.{statement}
+use Rattle.examiner.proofs.slots_pass.Tie as tie
+
+abbrev Inv-loop : tie.InvT-loop
+Inv-loop sets room i₀ i = (i ≤ room) × Passed slotTest (slots 48 room sets) i
+
+abbrev μ-loop : tie.MeasureT-loop
+μ-loop sets room i₀ i = room - i
+
+loop-holds : tie.Need-loop-holds Inv-loop μ-loop
+loop-holds c = (zero-le, refl)
+
+mul-a : tie.Need-mul-a Inv-loop μ-loop
+mul-a c = search needs
+
+add-e : tie.Need-add-e Inv-loop μ-loop
+add-e c = search needs
+
+sub-slot-passes : tie.Need-sub-slot-passes Inv-loop μ-loop
+sub-slot-passes c = search needs
+
+part-slot-passes-start : tie.Need-part-slot-passes-start Inv-loop μ-loop
+part-slot-passes-start c = search needs
+
+part-slot-passes-end : tie.Need-part-slot-passes-end Inv-loop μ-loop
+part-slot-passes-end c = search needs
+
+slot-passes-requires : tie.Need-slot-passes-requires Inv-loop μ-loop
+slot-passes-requires c κs = search needs
+
+returns : tie.Need-returns Inv-loop μ-loop
+returns c =
+    let a = c .before .before .before .before .before .before .args in
+    let l = c .before .before .before .before .loop in
+    sym (slot-fail slotTest 48 (a .room) (l .i) (a .sets .now) _ (c .before .slot-passes .ensures) (c .before .before .before .loop-test .taken)
+    (l .inv .1) (not-true _ (c .if1 .taken)))
+
+add-i : tie.Need-add-i Inv-loop μ-loop
+add-i c = search needs
+
+loop-less : tie.Need-loop-less Inv-loop μ-loop
+loop-less c = search needs
+
+loop-again : tie.Need-loop-again Inv-loop μ-loop
+loop-again c =
+    let a = c .before .before .before .before .before .before .args in
+    let l = c .before .before .before .before .loop in (
+      omega arith,
+      slot-pass slotTest 48 (a .room) (l .i) (a .sets .now) _ (c .before .slot-passes .ensures) (c .before .before .before .loop-test .taken)
+          (l .inv .1) (not-false _ (c .if1 .left)),
+    )
+
+returns-2 : tie.Need-returns-2 Inv-loop μ-loop
+returns-2 c =
+    let a = c .before .before .before .args in
+    let l = c .before .loop in
+    sym (slot-done slotTest 48 (a .room) (l .i) (a .sets .now) (c .loop-test .left) (l .inv .1))
+
+pub slots-pass-spec : {M : Type 1} → statement M
+slots-pass-spec =
+    tie.close
+    (tie.spec
+    Inv-loop
+    μ-loop
+    loop-holds
+    mul-a
+    add-e
+    sub-slot-passes
+    part-slot-passes-start
+    part-slot-passes-end
+    slot-passes-requires
+    returns
+    add-i
+    loop-less
+    loop-again
+    returns-2)

@@ -1,0 +1,224 @@
+// The examiner: whether a memory is a sound plan of this build. It looks at each slot once, and at each rule and the next.
+ghost use mathlib.Core.Path.{_≡_};
+ghost use Prim.Native.Nat.{_+_, _*_, _≤_};
+ghost use lib.ListN.{length};
+ghost use Rattle.meaning.specs.Basics.{all, within};
+ghost use Rattle.meaning.specs.Settings.{roomsInRange, settingsInRange};
+ghost use Rattle.buffer.specs.Slots.{slots};
+ghost use Rattle.filter.specs.Slots.{FilterBytes, RuleArea, ruleOf, rulesOf};
+ghost use Rattle.plan.specs.State.{soundOf};
+ghost use Rattle.examiner.specs.Examined.{fixedPass, openingPasses, sizesPass, headerPasses, slotTest, setFits, ruleTest};
+ghost use Rattle.examiner.specs.Examined.{rising, areasPass, setArea, ruleArea, Areas, Sized};
+use meaning::Order;
+use plan::HEADER_BYTES;
+use plan::RULE_BYTES;
+use plan::SET_BYTES;
+
+// The mark of this build, `NPP1`.
+const MARK: [u8; 4] = [78, 80, 80, 49];
+
+// Whether the memory has the mark, and 0 in the header's unused bytes.
+fn fixed_pass(memory: &[u8]) -> bool
+    requires { ⌜ 64 ≤ length (now memory) ⌝ }
+    ensures { λ r. ⌜ r ≡ fixedPass (now (memory .entry)) ⌝ }
+{
+    if !filter::begins_with(&MARK, memory) {
+        return false;
+    }
+    if !buffer::all_zero(&memory[6..8]) {
+        return false;
+    }
+    buffer::all_zero(&memory[48..64])
+}
+
+// Whether the rooms and settings in the header are in range.
+fn opening_passes(memory: &[u8]) -> bool
+    requires { ⌜ 64 ≤ length (now memory) ⌝ }
+    ensures { λ r. ⌜ r ≡ openingPasses (now (memory .entry)) ⌝ }
+{
+    if !settings::rooms_in_range(&memory[8..12]) {
+        return false;
+    }
+    settings::settings_in_range(&memory[12..48])
+}
+
+// Whether the rules have room, and the memory has the size that the rooms need.
+fn sizes_pass(memory: &[u8]) -> bool
+    requires { ⌜ 64 ≤ length (now memory) ⌝ }
+    ensures { λ r. ⌜ r ≡ sizesPass (now (memory .entry)) ⌝ }
+{
+    let rooms = &memory[8..12];
+    let sets = buffer::word(rooms, 0);
+    let rules = buffer::word(rooms, 2);
+    if rules < buffer::word(memory, 4) {
+        return false;
+    }
+    HEADER_BYTES + SET_BYTES * sets + RULE_BYTES * rules <= memory.len()
+}
+
+// Whether the memory begins with a header of this build, and has the size that it says.
+fn header_passes(memory: &[u8]) -> bool
+    ensures { λ r. ⌜ r ≡ headerPasses (now (memory .entry)) ⌝ }
+{
+    if memory.len() < HEADER_BYTES {
+        return false;
+    }
+    if !fixed_pass(memory) {
+        return false;
+    }
+    if !opening_passes(memory) {
+        return false;
+    }
+    sizes_pass(memory)
+}
+
+// Whether a set slot is all 0, or held with a content that passes and nothing behind it.
+fn slot_passes(slot: &[u8]) -> bool
+    requires { ⌜ length (now slot) ≡ 48 ⌝ }
+    ensures { λ r. ⌜ r ≡ slotTest (now (slot .entry)) ⌝ }
+{
+    let held = slot[0];
+    if held == 0 {
+        return buffer::all_zero(slot);
+    }
+    if 1 < held {
+        return false;
+    }
+    if !ranges::content_in_range(&slot[1..46]) {
+        return false;
+    }
+    if !groups::groups_hold(&slot[1..46]) {
+        return false;
+    }
+    buffer::all_zero(&slot[46..48])
+}
+
+// Whether each of the set slots passes.
+fn slots_pass(sets: &[u8], room: usize) -> bool
+    requires { ⌜ 48 * room ≤ length (now sets) ⌝ }
+    ensures { λ r. ⌜ r ≡ all slotTest (slots 48 room (now (sets .entry))) ⌝ }
+{
+    let mut i = 0;
+    while i < room {
+        let a = SET_BYTES * i;
+        let e = a + SET_BYTES;
+        if !slot_passes(&sets[a..e]) {
+            return false;
+        }
+        i += 1;
+    }
+    true
+}
+
+// Whether the set that a rule names is held and fits the rule's filter.
+fn fits_held(slot: &[u8], sets: &[u8], room: usize) -> bool
+    requires { ⌜ (length (now slot) ≡ 24) × (48 * room ≤ length (now sets)) ⌝ }
+    requires { ⌜ FilterBytes (now slot) ⌝ }
+    ensures { λ r. ⌜ r ≡ setFits room (now (sets .entry)) (ruleOf (now (slot .entry))) ⌝ }
+{
+    let n = buffer::word(slot, 19);
+    if room <= n {
+        return false;
+    }
+    let a = SET_BYTES * n;
+    if sets[a] == 0 {
+        return false;
+    }
+    let prefix = buffer::wide(slot[1]);
+    let len = buffer::wide(slot[18]);
+    let b = a + 1;
+    let e = a + 46;
+    actions::fits_content(prefix, len, &sets[b..e])
+}
+
+// Whether a rule slot that is held has a filter in range, nothing behind its set number, and a set that is held and fits it.
+fn rule_passes(slot: &[u8], sets: &[u8], room: usize) -> bool
+    requires { ⌜ (length (now slot) ≡ 24) × (48 * room ≤ length (now sets)) ⌝ }
+    ensures { λ r. ⌜ r ≡ ruleTest room (now (sets .entry)) (now (slot .entry)) ⌝ }
+{
+    if !filter::filter_in_range(slot) {
+        return false;
+    }
+    if !buffer::all_zero(&slot[21..24]) {
+        return false;
+    }
+    fits_held(slot, sets, room)
+}
+
+// Whether each of the rule slots that are held passes.
+fn rules_pass(sets: &[u8], room: usize, rules: &[u8], count: usize) -> bool
+    requires { ⌜ Areas room (now sets) count (now rules) ⌝ }
+    ensures { λ r. ⌜ r ≡ all (ruleTest room (now (sets .entry))) (slots 24 count (now (rules .entry))) ⌝ }
+{
+    let mut i = 0;
+    while i < count {
+        let a = RULE_BYTES * i;
+        let e = a + RULE_BYTES;
+        if !rule_passes(&rules[a..e], sets, room) {
+            return false;
+        }
+        i += 1;
+    }
+    true
+}
+
+// Whether each rule stands before the next in listing order.
+fn rules_rise(rules: &[u8], count: usize) -> bool
+    requires { ⌜ RuleArea count (now rules) ⌝ }
+    ensures { λ r. ⌜ r ≡ rising (rulesOf count (now (rules .entry))) ⌝ }
+{
+    let mut i: usize = 0;
+    while i + 1 < count {
+        let a = RULE_BYTES * i;
+        let b = a + RULE_BYTES;
+        let e = b + RULE_BYTES;
+        match filter::order_filters(&rules[a..b], &rules[b..e]) {
+            Order::Before => {}
+            Order::Same => return false,
+            Order::After => return false,
+        }
+        i += 1;
+    }
+    true
+}
+
+// Whether the areas of the set slots and of the rule slots are those of a sound plan.
+fn areas_pass(sets: &[u8], room: usize, rules: &[u8], count: usize) -> bool
+    requires { ⌜ Areas room (now sets) count (now rules) ⌝ }
+    ensures { λ r. ⌜ r ≡ areasPass room (now (sets .entry)) count (now (rules .entry)) ⌝ }
+{
+    if !slots_pass(sets, room) {
+        return false;
+    }
+    if !rules_pass(sets, room, rules, count) {
+        return false;
+    }
+    if !rules_rise(rules, count) {
+        return false;
+    }
+    let free = RULE_BYTES * count;
+    buffer::all_zero(&rules[free..])
+}
+
+// Whether what stands behind the header is the slots of a sound plan.
+fn body_passes(memory: &[u8], room: usize, rules: usize, count: usize) -> bool
+    requires { ⌜ Sized room rules count (now memory) ⌝ }
+    ensures { λ r. ⌜ r ≡ areasPass room (setArea room (now (memory .entry))) count (ruleArea room rules (now (memory .entry))) ⌝ }
+{
+    let a = HEADER_BYTES + SET_BYTES * room;
+    let e = a + RULE_BYTES * rules;
+    areas_pass(&memory[HEADER_BYTES..a], room, &memory[a..e], count)
+}
+
+// Whether the memory is a sound plan of this build.
+pub fn sound(memory: &[u8]) -> bool
+    ensures { λ r. ⌜ r ≡ soundOf (now (memory .entry)) ⌝ }
+{
+    if !header_passes(memory) {
+        return false;
+    }
+    let rooms = &memory[8..12];
+    let sets = buffer::word(rooms, 0);
+    let rules = buffer::word(rooms, 2);
+    body_passes(memory, sets, rules, buffer::word(memory, 4))
+}

@@ -1,0 +1,26 @@
+-- By the code.
+use mathlib.Core.Path.{_∙_}
+use Rattle.formatting.proofs.Values.{sent-conditioned, sent-served}
+use borrow.Author.Needs.{needs}
+use Rattle.formatting.proofs.value_to_send.Statement.{statement}
+use Rattle.formatting.proofs.value_to_send.Tie as tie
+
+conditioned-value-requires : tie.Need-conditioned-value-requires
+conditioned-value-requires c κs = search needs
+
+returns : tie.Need-returns
+returns c =
+    let a = c .before .before .before .before .before .before .args in
+    c .conditioned-value .ensures ∙ sent-conditioned (a .settings .now) (a .lookup .now) (a .digits .now) (a .cas .now) (a .prefix) (a .served) (a .f) (c .before .if1 .taken)
+
+service-value-requires : tie.Need-service-value-requires
+service-value-requires c κs = search needs
+
+returns-2 : tie.Need-returns-2
+returns-2 c =
+    let a = c .before .before .before .before .before .before .args in
+    c .service-value .ensures ∙ sent-served (a .settings .now) (a .lookup .now) (a .digits .now) (a .cas .now) (a .prefix) (a .served) (a .f) (c .before .if1 .left)
+
+pub value-to-send-spec : {M : Type 1} → statement M
+value-to-send-spec =
+    tie.close (tie.spec conditioned-value-requires returns service-value-requires returns-2)

@@ -1,0 +1,44 @@
+-- The outgoing digits and the conditioned number as joined values, and what their writers promise.
+use Prim.Native.Nat.{ℕ, _≤_}
+use mathlib.Core.Path.{_≡_}
+use mathlib.Core.Bool.{false}
+use mathlib.Core.List.{List, [], _∷_}
+use lib.ListN.{length}
+use Rattle.meaning.specs.Basics.{if_then_else_, writtenOver}
+use Rattle.meaning.specs.Settings.{settingsOf, lookupOf}
+use Rattle.meaning.specs.Actions.{CC, AC, SN, DN, ZN, CA, casOf, codesOf}
+use Rattle.meaning.specs.Groups.{isSet}
+use Rattle.meaning.specs.Conditioning.{short, valueFrom, conditionedFrom}
+use Rattle.meaning.specs.Services.{valueToSend, join}
+use Rattle.services.specs.declared.Served.{Served}
+use Rattle.services.specs.Stages.{stageOf}
+
+-- document 01's outgoing digits: "the FA values joined in order", by the stage that these FAs make
+unfoldable pub outgoing : List ℕ → List ℕ → List ℕ → List ℕ → ℕ → Served → List ℕ → List ℕ
+outgoing settings lookup digits cas prefix served fas =
+    join
+    (valueToSend (settingsOf settings) (valueFrom (settingsOf settings .country) prefix digits (casOf cas))
+    (stageOf (settingsOf settings) (lookupOf lookup) (codesOf fas) served)) (codesOf fas)
+
+-- document 01's conditioned number
+unfoldable pub conditioned : List ℕ → List ℕ → List ℕ → ℕ → List ℕ
+conditioned settings digits cas prefix = conditionedFrom (casOf cas) (valueFrom (settingsOf settings .country) prefix digits (casOf cas))
+
+-- the values that it joins: "ZN, or CC then DN, or CC then AC then SN"
+unfoldable pub conditionedCodes : List CA → List ℕ
+conditionedCodes xs = if isSet ZN xs then (ZN ∷ []) else if isSet DN xs then (CC ∷ DN ∷ []) else (CC ∷ AC ∷ SN ∷ [])
+
+-- the settings, and digits that are enough for the conditioning actions
+pub record Conditionable (settings digits cas : List ℕ) (prefix : ℕ) : Type 0 where
+  pub settings-long : length settings ≡ 36
+  pub enough : short prefix (length digits) (casOf cas) ≡ false
+
+-- few enough values and digits that their lengths may be summed
+pub record Few (digits fas : List ℕ) : Type 0 where
+  pub digits-few : length digits ≤ 32
+  pub fas-few : length fas ≤ 12
+
+-- the digits ds are written at the front of the buffer `entry`, and r is how many they are
+pub record Writes (ds entry exit : List ℕ) (r : ℕ) : Type 0 where
+  pub written : exit ≡ writtenOver ds entry
+  pub count : r ≡ length ds

@@ -1,0 +1,51 @@
+-- The values that formatting actions send, over the bytes of the settings and of a lookup.
+use Prim.Native.Nat.{ℕ, _-_}
+use mathlib.Core.Path.{_≡_}
+use mathlib.Core.Bool.{Bool, false, _&&_}
+use mathlib.Core.List.{List, [], _∷_}
+use lib.ListN.{length, getD}
+use lib.Dec.{eqb}
+use Rattle.meaning.specs.Basics.{if_then_else_, digitsOf}
+use Rattle.meaning.specs.Settings.{settingsOf, lookupOf}
+use Rattle.meaning.specs.Actions.{RN, casOf}
+use Rattle.meaning.specs.Conditioning.{short, valueFrom}
+use Rattle.meaning.specs.Services.{Stage, atStart, rnSet, valueToSend}
+use Rattle.services.specs.declared.Served.{Served}
+use Rattle.services.specs.Stages.{stageOf}
+
+-- the settings and a lookup, whole
+pub record Looked (settings lookup : List ℕ) : Type 0 where
+  pub settings-long : length settings ≡ 36
+  pub lookup-long : length lookup ≡ 39
+
+-- and digits that are enough for the conditioning actions
+pub record Formattable (settings lookup digits cas : List ℕ) (prefix : ℕ) : Type 0 where
+  pub looked : Looked settings lookup
+  pub enough : short prefix (length digits) (casOf cas) ≡ false
+
+abbrev pub digitsIf : Bool → List ℕ → List ℕ
+digitsIf set s = if set then digitsOf s else []
+
+-- the stage by which an FA's value is asked for: RN is set where an FA asks for it
+abbrev pub stageAsked : List ℕ → List ℕ → Served → Stage
+stageAsked settings lookup served = stageOf (settingsOf settings) (lookupOf lookup) (RN ∷ []) served
+
+unfoldable pub rnOf : List ℕ → List ℕ → Bool → List ℕ
+rnOf settings lookup ported = if ported then rnSet (settingsOf settings) (lookupOf lookup) (RN ∷ []) atStart else []
+
+unfoldable pub spOf : List ℕ → Bool → List ℕ
+spOf lookup ported = if ported && eqb (lookupOf lookup .kind) 3 then lookupOf lookup .entity else []
+
+-- the values behind the last that conditioning sets: RN, SP, ASD, GRN and the delimiters
+abbrev pub serviceValues : List ℕ → List ℕ → Served → List (List ℕ)
+serviceValues settings lookup served =
+    rnOf settings lookup (served .ported) ∷ spOf lookup (served .ported) ∷ (if served .asd then lookupOf lookup .asd else [])
+    ∷ (if served .grn then lookupOf lookup .grn else []) ∷ settingsOf settings .delimiterA ∷ settingsOf settings .delimiterB ∷ []
+
+unfoldable pub serviceValue : List ℕ → List ℕ → Served → ℕ → List ℕ
+serviceValue settings lookup served f = getD (serviceValues settings lookup served) (f - 11) []
+
+-- document 01's value of an FA
+unfoldable pub valueSent : List ℕ → List ℕ → List ℕ → List ℕ → ℕ → Served → ℕ → List ℕ
+valueSent settings lookup digits cas prefix served f =
+    valueToSend (settingsOf settings) (valueFrom (settingsOf settings .country) prefix digits (casOf cas)) (stageAsked settings lookup served) f

@@ -1,0 +1,3 @@
+pub mod PlaceAnswers
+pub mod RuleLines
+pub mod RuleChanges

@@ -1,0 +1,78 @@
+-- What the service stage's struct says of a stage of document 01, and what its functions promise.
+use Prim.Native.Nat.{ℕ, _+_, _≤_}
+use mathlib.Core.Path.{_≡_}
+use mathlib.Core.Bool.{false, _&&_}
+use mathlib.Core.List.{List, []}
+use lib.ListN.{length, take, drop, getD, set}
+use lib.Dec.{eqb}
+use Rattle.meaning.specs.Basics.{if_then_else_, writtenOver}
+use Rattle.meaning.specs.Settings.{Settings, Lookup, settingsOf, lookupOf}
+use Rattle.meaning.specs.Actions.{codesOf}
+use Rattle.meaning.specs.Services.{Stage, atStart, rnSet, carryOut, serve, eightPlaces}
+use Rattle.services.specs.declared.Served.{Served}
+
+-- the stage: a value is set where its action was carried out, to what the settings and the lookup have
+unfoldable pub stageOf : Settings → Lookup → List ℕ → Served → Stage
+stageOf settings lookup fas s =
+    record {
+      response = s .response;
+      done = take (s .count) (s .actions);
+      rn = (if s .ported then rnSet settings lookup fas atStart else []);
+      sp = (if s .ported && eqb (lookup .kind) 3 then lookup .entity else []);
+      asd = (if s .asd then lookup .asd else []);
+      grn = (if s .grn then lookup .grn else []);
+      withheld = s .withheld;
+    }
+
+-- no action carried out yet
+abbrev pub unserved : List ℕ → Served
+unserved places = record { actions = places; count = 0; response = 0; withheld = false; ported = false; asd = false; grn = false }
+
+-- one more action listed
+unfoldable pub withCode : ℕ → Served → Served
+withCode code s =
+    record {
+      actions = set (s .actions) (s .count) code;
+      count = s .count + 1;
+      response = s .response;
+      withheld = s .withheld;
+      ported = s .ported;
+      asd = s .asd;
+      grn = s .grn;
+    }
+
+-- r is s with an action of document 01 carried out, for lookups of a kind and settings with an answer for it; places behind stay
+pub record CarriesOut (action : Settings → Lookup → List ℕ → Stage → Stage) (kind answer : ℕ) (s r : Served) : Type 0 where
+  pub stage : (settings : Settings) (lookup : Lookup) (fas : List ℕ) → lookup .kind ≡ kind → getD (settings .answers) kind 0 ≡ answer
+      → stageOf settings lookup fas r ≡ action settings lookup fas (stageOf settings lookup fas s)
+  pub count : r .count ≡ s .count + 1
+  pub behind : drop (s .count + 1) (r .actions) ≡ drop (s .count + 1) (s .actions)
+
+abbrev pub carryingOut : ℕ → Settings → Lookup → List ℕ → Stage → Stage
+carryingOut code settings lookup fas s = carryOut settings lookup fas code s
+
+-- what the stage is asked over: a set's service actions, the settings, and a lookup with its kind in range
+pub record Serviceable (sas settings lookup : List ℕ) : Type 0 where
+  pub few : length sas ≤ 8
+  pub settings-long : length settings ≡ 36
+  pub lookup-long : length lookup ≡ 39
+  pub kind : getD lookup 0 0 ≤ 3
+
+-- document 01's stage after all the actions
+abbrev pub stageAfter : List ℕ → List ℕ → List ℕ → List ℕ → Stage
+stageAfter fas sas settings lookup = serve (settingsOf settings) (lookupOf lookup) fas (codesOf sas) atStart
+
+-- r is the stage after all the actions, by any formatting actions; the actions carried out lie in eight places as `placed` says
+pub record ServedAs (placed : List ℕ → List ℕ) (sas settings lookup : List ℕ) (r : Served) : Type 0 where
+  pub stage : (fas : List ℕ) → stageOf (settingsOf settings) (lookupOf lookup) fas r ≡ stageAfter fas sas settings lookup
+  pub count : (fas : List ℕ) → r .count ≡ length (stageAfter fas sas settings lookup .done)
+  pub actions : (fas : List ℕ) → r .actions ≡ placed (stageAfter fas sas settings lookup .done)
+  pub most : r .count ≤ 8
+
+-- over the front of the places passed in
+abbrev pub ServedFrom : List ℕ → List ℕ → List ℕ → List ℕ → Served → Type 0
+ServedFrom places = ServedAs (λ done. writtenOver done places)
+
+-- from zeros: "in eight places, zero after the last, and their count"
+abbrev pub ServedAnew : List ℕ → List ℕ → List ℕ → Served → Type 0
+ServedAnew = ServedAs eightPlaces

@@ -1,0 +1,3 @@
+pub mod FittingLaws
+pub mod LineLaws
+pub mod ChangeLaws
