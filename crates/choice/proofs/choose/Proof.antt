@@ -1,0 +1,25 @@
+-- The rules of the plan are those of its rule area.
+use mathlib.Core.Path.{ap, _∙_}
+use Rattle.meaning.specs.Rules.{chosenPlace}
+use Rattle.plan.proofs.ReadLaws.{numbers}
+use Rattle.choice.proofs.Chosen.{area-is, rules-are}
+use borrow.Author.Needs.{needs}
+use Rattle.choice.proofs.choose.Statement.{statement}
+use Rattle.choice.proofs.choose.Tie as tie
+
+rules-requires : tie.Need-rules-requires
+rules-requires c κs = search needs
+
+rule-count-requires : tie.Need-rule-count-requires
+rule-count-requires c κs = let b = c .before .before .before in numbers (b .args .plan .now) (b .pre) .header
+
+choose-requires : tie.Need-choose-requires
+choose-requires c κs = let b = c .before .before .before .before in area-is (b .args .plan .now) _ _ (c .before .rules .ensures) (c .rule-count .ensures .is)
+
+returns : tie.Need-returns
+returns c =
+    let b = c .before .before .before .before .before in
+    c .choose .ensures ∙ ap (chosenPlace (b .args .class) (b .args .digits .now)) (rules-are (b .args .plan .now) _ _ (c .before .before .rules .ensures) (c .before .rule-count .ensures .is))
+
+pub choose-spec : {M : Type 1} → statement M
+choose-spec = tie.close (tie.spec rules-requires rule-count-requires choose-requires returns)

@@ -1,0 +1,110 @@
+-- What a number's body in range has, and the answer by the rule chosen for it.
+use Prim.Native.Nat.{ℕ, _+_, _-_, _≤_}
+use mathlib.Core.Path.{_≡_, ap, sym, subst, _∙_}
+use mathlib.Core.Bool.{true, _&&_}
+use mathlib.Core.List.{List, _∷_}
+use mathlib.Core.Option.{Option, none}
+use native.Mathlib.Omega.{arith}
+use lib.ListN.{length, take, drop, getD, length-drop}
+use lib.Seq.{length-take-le, drop-cons}
+use lib.Dec.{T, leb, leb→le}
+use Rattle.meaning.specs.Basics.{all, isDigit, isZero, within, part, digitsInRange}
+use Rattle.meaning.specs.Settings.{Number, lookupOf, numberOf, lookupRanges, lookupInRange, numberRanges, numberInRange}
+use Rattle.meaning.specs.Rules.{filterIn, chosenPlace, chosen}
+use Rattle.meaning.specs.Actions.{actionsOf}
+use Rattle.meaning.specs.Plan.{settingsIn, actionsIn}
+use Rattle.meaning.specs.Answer.{NO-RULE, Answer, unserved, answerBy, answerUnder, answerOf}
+use Rattle.meaning.specs.Answers.{answeredAs, placeChosen}
+use Rattle.meaning.specs.declared.Answered.{Answered}
+use Rattle.meaning.specs.declared.Chosen.{Chosen}
+use Rattle.meaning.specs.declared.Chosen.the-variants.{At, NoRule}
+use Rattle.meaning.specs.declared.RulePlace.{RulePlace}
+use Rattle.meaning.proofs.Tests.{true-is, and-left, and-right, all-at}
+use Rattle.buffer.proofs.DigitLaws.{digits-at}
+use Rattle.plan.specs.Layout.{planOf}
+use Rattle.plan.proofs.ReadLaws.{sound-is}
+use Rattle.choice.specs.Chosen.{Prefix, NamedContent}
+use Rattle.choice.proofs.Chosen.{rulePlaced, ChosenAt, chosen-at, none-chosen}
+use Rattle.number.specs.Answering.{givenBy, Answerable, Digits, Ready, Placed}
+use Rattle.number.specs.Promises.{GivesAnswer}
+use Rattle.number.proofs.Answering.{gives-unserved, answer-with}
+
+-- THE BODY
+
+module _ (body : List ℕ) (whole : length body ≡ 73) (range : numberInRange body ≡ true) where
+  ranges : (k : ℕ) → T (getD (numberRanges body) k true)
+  unfolding numberInRange
+  ranges k = all-at k (numberRanges body) (true-is (numberInRange body) range)
+
+  pub digits-few : getD body 1 0 ≤ 32
+  digits-few =
+      let is : drop 1 body ≡ getD body 1 0 ∷ drop 2 body = drop-cons body 1 0 (omega arith) in
+      let t : T (digitsInRange 0 32 (take 33 (getD body 1 0 ∷ drop 2 body))) = rw is at (ranges 1) in
+      let ds : List ℕ = take 32 (drop 2 body) in
+      let w : T (within 0 32 (getD body 1 0)) = and-left (within 0 32 (getD body 1 0)) (all isDigit (take (getD body 1 0) ds) && all isZero (drop (getD body 1 0) ds)) t in
+      leb→le (getD body 1 0) 32 (and-right (leb 0 (getD body 1 0)) (leb (getD body 1 0) 32) w)
+
+  pub digits-are : (n : ℕ) → n ≡ getD body 1 0 → Digits body (take (n + 2 - 2) (drop 2 body))
+  unfolding numberOf
+  digits-are n e =
+      let few : getD body 1 0 ≤ 32 = digits-few in
+      let k : n + 2 - 2 ≡ getD body 1 0 = omega arith in
+      let l : length (take (getD body 1 0) (drop 2 body)) ≡ getD body 1 0 = length-take-le (getD body 1 0) (drop 2 body) (rw (length-drop 2 body) (omega arith)) in
+      rw k (record { is = sym (digits-at 1 32 body (omega arith) few); few = omega arith })
+
+  pub lookup-long : length (part 34 39 body) ≡ 39
+  lookup-long = length-take-le 39 (drop 34 body) (rw (length-drop 34 body) (omega arith))
+
+  pub lookup-kind : getD (part 34 39 body) 0 0 ≤ 3
+  unfolding lookupInRange
+  lookup-kind = leb→le (getD (part 34 39 body) 0 0) 3 (all-at 0 (lookupRanges (part 34 39 body)) (ranges 2))
+
+-- BY THE RULE CHOSEN
+
+module _ (m body ds out : List ℕ) (k : ℕ) (placed : Placed m body ds k out) where
+  number-is : numberOf body ≡ record { class = getD body 0 0; digits = ds; lookup = lookupOf (part 34 39 body) }
+  unfolding numberOf
+  number-is = rw (placed .digits .is)
+
+  pub at-place : ChosenAt m (getD body 0 0) ds k
+  at-place = chosen-at m (getD body 0 0) ds k (placed .ready .sound) (placed .place)
+
+  module _ (settings content : List ℕ) (prefix : ℕ) (settings-is : settings ≡ planOf m .settings) (prefix-is : Prefix (rulePlaced m k) prefix)
+      (content-is : NamedContent (planOf m) (rulePlaced m k) content) where
+    pub answerable : Answerable settings (part 34 39 body) ds content out
+    answerable =
+        record {
+          settings-long = ap length settings-is ∙ sound-is m (placed .ready .sound) .plan .settings-size;
+          lookup-long = lookup-long body (placed .ready .whole) (placed .ready .range);
+          kind = lookup-kind body (placed .ready .whole) (placed .ready .range);
+          digits-few = placed .digits .few;
+          content-long = content-is .size;
+          room = placed .ready .room;
+        }
+
+    answer-is : answerOf (planOf m) (numberOf body) ≡ givenBy settings (part 34 39 body) (getD body 0 0) ds prefix content
+    unfolding answerOf
+    answer-is =
+        let n : Number = record { class = getD body 0 0; digits = ds; lookup = lookupOf (part 34 39 body) } in
+        ap (λ (x : Number). answerUnder (planOf m) x (chosen (x .class) (x .digits) (planOf m .rules))) number-is
+        ∙ (ap (answerUnder (planOf m) n) (at-place .is)
+        ∙ (ap (λ (o : Option (List ℕ)). answerBy (settingsIn (planOf m)) n (filterIn (rulePlaced m k)) (actionsIn o)) (content-is .is)
+        ∙ (answer-with (settingsIn (planOf m)) n (filterIn (rulePlaced m k)) (actionsOf content) prefix (prefix-is .is) ∙ rw settings-is)))
+
+    pub gives-placed : (after : List ℕ) (r : Answered) → GivesAnswer (givenBy settings (part 34 39 body) (getD body 0 0) ds prefix content) out after r
+        → GivesAnswer (answerOf (planOf m) (numberOf body)) out after r
+    gives-placed after r g = subst (λ (x : Answer). GivesAnswer x out after r) (sym answer-is) g
+
+-- BY THE CHOICE
+
+module _ (m body ds out : List ℕ) (ready : Ready m body out) (digits : Digits body ds) (o : Chosen)
+    (o-is : placeChosen o ≡ chosenPlace (getD body 0 0) ds (planOf m .rules)) where
+  pub placed-at : (place : RulePlace) → o ≡ At place → Placed m body ds (place .0) out
+  placed-at place q = record { ready = ready; digits = digits; place = sym o-is ∙ ap placeChosen q }
+
+  pub gives-none : o ≡ NoRule → (r : Answered) → r ≡ answeredAs (unserved NO-RULE (getD body 0 0)) → GivesAnswer (answerOf (planOf m) (numberOf body)) out out r
+  unfolding answerOf numberOf
+  gives-none q r e =
+      let c : chosen (getD body 0 0) (numberOf body .digits) (planOf m .rules) ≡ none =
+      ap (λ (x : List ℕ). chosen (getD body 0 0) x (planOf m .rules)) (sym (digits .is)) ∙ none-chosen m (getD body 0 0) ds (sym o-is ∙ ap placeChosen q) in
+      gives-unserved (answerOf (planOf m) (numberOf body)) NO-RULE (getD body 0 0) out r (ap (answerUnder (planOf m) (numberOf body)) c) e

@@ -1,0 +1,4 @@
+pub mod Classes
+pub mod Answering
+pub mod Bodies
+pub mod Calls

@@ -1,0 +1,54 @@
+-- Each way gives the answer that document 01 has for it.
+use Rattle.number.proofs.Answering.{gives-responded, gives-withheld, gives-long, gives-written}
+use borrow.Author.Needs.{needs}
+use Rattle.number.proofs.finish.Statement.{statement}
+use Rattle.number.proofs.finish.Tie as tie
+
+served-requires : tie.Need-served-requires
+served-requires c κs = search needs
+
+returns : tie.Need-returns
+returns c = gives-responded _ _ _ _ _ _ (c .before .if1 .taken) (c .served .ensures)
+
+served-requires-2 : tie.Need-served-requires-2
+served-requires-2 c κs = search needs
+
+returns-2 : tie.Need-returns-2
+returns-2 c = gives-withheld _ _ _ _ _ _ (c .before .before .if1 .left) (c .before .if2 .taken) (c .served2 .ensures)
+
+joined-length-requires : tie.Need-joined-length-requires
+joined-length-requires c κs = search needs
+
+refused-requires : tie.Need-refused-requires
+refused-requires c κs = search needs
+
+returns-3 : tie.Need-returns-3
+returns-3 c = gives-long _ _ _ _ _ _ (c .before .before .before .before .if1 .left) (c .before .before .before .if2 .left) _ (c .before .before .joined-length .ensures) (c .before .if3 .taken) (c .refused .ensures)
+
+write-joined-requires : tie.Need-write-joined-requires
+write-joined-requires c κs = search needs
+
+served-requires-3 : tie.Need-served-requires-3
+served-requires-3 c κs = search needs
+
+same-length : tie.Need-same-length
+same-length c = search needs
+
+returns-4 : tie.Need-returns-4
+returns-4 c = gives-written _ _ _ _ _ _ (c .before .before .before .before .before .before .before .before .if1 .left) (c .before .before .before .before .before .before .before .if2 .left) _ (c .before .before .before .before .before .before .joined-length .ensures) (c .before .before .before .before .before .if3 .left) _ _ (c .before .before .before .write-joined .ensures) (c .served3 .ensures)
+
+pub finish-spec : {M : Type 1} → statement M
+finish-spec =
+    tie.close
+    (tie.spec
+    served-requires
+    returns
+    served-requires-2
+    returns-2
+    joined-length-requires
+    refused-requires
+    returns-3
+    write-joined-requires
+    served-requires-3
+    same-length
+    returns-4)

@@ -1,0 +1,78 @@
+-- The answer to a number by the struct of its service stage, and what the functions on the way to it ask.
+use Prim.Native.Nat.{ℕ, _≤_}
+use mathlib.Core.Path.{_≡_}
+use mathlib.Core.Bool.{true}
+use mathlib.Core.List.{List, []}
+use mathlib.Core.Option.{some}
+use lib.ListN.{length, getD}
+use lib.Dec.{leb}
+use Rattle.meaning.specs.Basics.{if_then_else_, isEmpty}
+use Rattle.meaning.specs.Refusals.{SHORT, LONG}
+use Rattle.meaning.specs.Settings.{Settings, Number, settingsOf, lookupOf, numberOf, numberInRange}
+use Rattle.meaning.specs.Rules.{chosenPlace}
+use Rattle.meaning.specs.Actions.{ActionSet, actionsOf}
+use Rattle.meaning.specs.Conditioning.{short, valueFrom}
+use Rattle.meaning.specs.Services.{Stage, atStart, serve, valueToSend, join}
+use Rattle.meaning.specs.Answer.{ESCAPED, RESPONDED, UNCHANGED, FORMATTED, Answer, refused, unserved, outgoingClass, afterServices}
+use Rattle.meaning.specs.declared.Answered.{Answered}
+use Rattle.services.specs.declared.Served.{Served}
+use Rattle.plan.specs.Layout.{planOf}
+use Rattle.plan.specs.State.{soundOf}
+
+-- the struct of an answer after the service actions, with n digits
+abbrev pub countedAs : ℕ → ℕ → Served → ℕ → Answered
+countedAs outcome class s n =
+    record { refusal = 0; outcome = outcome; class = class; response = s .response; count = s .count; actions = s .actions; digits = n }
+
+-- the answer itself
+abbrev pub servedBy : ℕ → ℕ → Served → List ℕ → Answer
+servedBy outcome class s ds =
+    record { refusal = 0; outcome = outcome; class = class; response = s .response; count = s .count; actions = s .actions; digits = ds }
+
+-- what follows the service actions: the incoming class, the outgoing one, and the outgoing digits
+unfoldable pub finished : ℕ → ℕ → Served → List ℕ → Answer
+finished incoming class s out =
+    if leb 2 (s .response) then servedBy RESPONDED incoming s [] else
+    if s .withheld then servedBy UNCHANGED incoming s [] else
+    if leb (length out) 32 then servedBy FORMATTED class s out else refused LONG
+
+-- document 01's answer by a rule, of whose filter it needs the length of the prefix alone
+unfoldable pub answerWith : Settings → Number → ℕ → ActionSet → Answer
+answerWith settings n prefix s =
+    let stage : Stage = serve settings (n .lookup) (s .fas) (s .sas) atStart in
+    let value : ℕ → List ℕ = valueFrom (settings .country) prefix (n .digits) (s .cas) in
+    if isEmpty (s .cas) then unserved ESCAPED (outgoingClass (s .class) (n .class)) else
+    if short prefix (length (n .digits)) (s .cas) then refused SHORT else
+    afterServices (n .class) (outgoingClass (s .class) (n .class)) stage (join (valueToSend settings value stage) (s .fas))
+
+-- and over the bytes of the settings, the lookup and the content
+abbrev pub givenBy : List ℕ → List ℕ → ℕ → List ℕ → ℕ → List ℕ → Answer
+givenBy settings lookup class digits prefix content =
+    answerWith (settingsOf settings) (record { class = class; digits = digits; lookup = lookupOf lookup }) prefix (actionsOf content)
+
+-- the settings, a lookup with its kind in range, digits, a set's content, and room for the outgoing digits
+pub record Answerable (settings lookup digits content out : List ℕ) : Type 0 where
+  pub settings-long : length settings ≡ 36
+  pub lookup-long : length lookup ≡ 39
+  pub kind : getD lookup 0 0 ≤ 3
+  pub digits-few : length digits ≤ 32
+  pub content-long : length content ≡ 45
+  pub room : 32 ≤ length out
+
+-- ds are the digits of a body
+pub record Digits (body ds : List ℕ) : Type 0 where
+  pub is : ds ≡ numberOf body .digits
+  pub few : length ds ≤ 32
+
+-- a sound plan, a number's body in range, and room for the outgoing digits
+pub record Ready (m body out : List ℕ) : Type 0 where
+  pub sound : soundOf m ≡ true
+  pub whole : length body ≡ 73
+  pub range : numberInRange body ≡ true
+  pub room : 32 ≤ length out
+
+-- and the rule chosen, at place k
+pub record Placed (m body ds : List ℕ) (k : ℕ) (out : List ℕ) : Type 0 where
+  pub ready : Ready m body out
+  pub digits : Digits body ds
+  pub place : chosenPlace (getD body 0 0) ds (planOf m .rules) ≡ some k

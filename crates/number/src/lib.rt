@@ -1,0 +1,258 @@
+// Answering a number over a plan: the choice of a rule, conditioning, the service actions and formatting, with every field of the answer.
+use choice::choose;
+use choice::content_at;
+use choice::prefix_at;
+use formatting::joined_length;
+use formatting::write_joined;
+use services::Served;
+ghost use mathlib.Core.Path.{_≡_};
+ghost use mathlib.Core.Bool.{true};
+ghost use Prim.Native.Nat.{_≤_, _<_};
+ghost use lib.ListN.{length};
+ghost use Rattle.meaning.specs.Settings.{numberOf, numberInRange};
+ghost use Rattle.meaning.specs.Answer.{refused, unserved, outgoingClass, answerOf};
+ghost use Rattle.meaning.specs.Answers.{answeredAs};
+ghost use Rattle.formatting.specs.Values.{Formattable};
+ghost use Rattle.formatting.specs.Joins.{outgoing, Few};
+ghost use Rattle.plan.specs.Layout.{planOf};
+ghost use Rattle.number.specs.Answering.{countedAs, finished, givenBy, Answerable, Digits, Ready, Placed};
+ghost use Rattle.number.specs.Promises.{GivesAnswer, AnswerPromise};
+use meaning::Answered;
+use meaning::Chosen;
+use meaning::Class;
+use meaning::OutgoingOf;
+use meaning::RulePlace;
+
+// The bytes of a number's body, and where its lookup begins.
+const BODY: usize = 73;
+
+const LOOKUP: usize = 34;
+
+// Where a body has its count of digits, and where these begin.
+const COUNT: usize = 1;
+
+const DIGITS: usize = 2;
+
+// The most digits of an answer, and the bytes of the buffer that is lent for them.
+const MOST: usize = 32;
+
+const ROOM_BYTES: usize = 35;
+
+// The first response that ends the service stage.
+const CONNECT: u8 = 2;
+
+// The outcomes.
+const NO_RULE: u8 = 0;
+
+const ESCAPED: u8 = 1;
+
+const RESPONDED: u8 = 2;
+
+const UNCHANGED: u8 = 3;
+
+const FORMATTED: u8 = 4;
+
+// The refusals.
+const CUT: u8 = 1;
+
+const PLAN: u8 = 3;
+
+const ROOM: u8 = 4;
+
+const RANGE: u8 = 5;
+
+const SHORT: u8 = 12;
+
+const LONG: u8 = 13;
+
+// A refusal: its number, and every other field 0.
+fn refused(number: u8) -> Answered
+    ensures { λ r. ⌜ r ≡ answeredAs (refused number) ⌝ }
+{
+    Answered {
+        refusal: number,
+        outcome: 0,
+        class: 0,
+        response: 0,
+        count: 0,
+        actions: [0u8; 8],
+        digits: 0,
+    }
+}
+
+// An answer before the service actions.
+fn unserved(outcome: u8, class: u8) -> Answered
+    ensures { λ r. ⌜ r ≡ answeredAs (unserved outcome class) ⌝ }
+{
+    Answered {
+        refusal: 0,
+        outcome: outcome,
+        class: class,
+        response: 0,
+        count: 0,
+        actions: [0u8; 8],
+        digits: 0,
+    }
+}
+
+// An answer after the service actions.
+fn served(outcome: u8, class: u8, s: Served, digits: usize) -> Answered
+    ensures { λ r. ⌜ r ≡ countedAs outcome class s digits ⌝ }
+{
+    let actions = s.actions;
+    Answered {
+        refusal: 0,
+        outcome: outcome,
+        class: class,
+        response: s.response,
+        count: s.count,
+        actions: actions,
+        digits: digits,
+    }
+}
+
+// The set's class, or the incoming one where that is "as incoming".
+fn outgoing_class(set: u8, incoming: u8) -> u8
+    ensures { λ r. ⌜ r ≡ outgoingClass set incoming ⌝ }
+{
+    match Class::outgoing(set) {
+        OutgoingOf::Given(class) => class.code(),
+        OutgoingOf::AsIncoming => incoming,
+        OutgoingOf::Unknown => set,
+    }
+}
+
+// What follows the service actions: a response, formatting withheld, or the outgoing digits, unless they are too many. `class` is the outgoing one.
+fn finish<'a>(
+    settings: &'a [u8],
+    lookup: &'a [u8],
+    digits: &'a [u8],
+    cas: &[u8],
+    prefix: usize,
+    s: Served,
+    fas: &[u8],
+    incoming: u8,
+    class: u8,
+    out: &mut [u8],
+) -> Answered
+    requires { ⌜ Formattable (now settings) (now lookup) (now digits) (now cas) prefix × Few (now digits) (now fas) × (32 ≤ length (now out)) ⌝ }
+    ensures { λ r. ⌜ GivesAnswer (finished incoming class s (outgoing (now (settings .entry)) (now (lookup .entry)) (now (digits .entry)) (now (cas .entry)) prefix s (now (fas .entry)))) (now (out .entry)) (now (out .exit)) r ⌝ }
+{
+    if CONNECT <= s.response {
+        return served(RESPONDED, incoming, s, 0);
+    }
+    if s.withheld {
+        return served(UNCHANGED, incoming, s, 0);
+    }
+    let n = joined_length(settings, lookup, digits, cas, prefix, s, fas);
+    if MOST < n {
+        return refused(LONG);
+    }
+    let written = write_joined(settings, lookup, digits, cas, prefix, s, fas, out);
+    served(FORMATTED, class, s, written)
+}
+
+// What a rule with a prefix of that many digits and the content of its set make of a number.
+fn answer_by<'a>(
+    settings: &'a [u8],
+    lookup: &'a [u8],
+    class: u8,
+    digits: &'a [u8],
+    prefix: usize,
+    content: &[u8],
+    out: &mut [u8],
+) -> Answered
+    requires { ⌜ Answerable (now settings) (now lookup) (now digits) (now content) (now out) ⌝ }
+    ensures { λ r. ⌜ GivesAnswer (givenBy (now (settings .entry)) (now (lookup .entry)) class (now (digits .entry)) prefix (now (content .entry))) (now (out .entry)) (now (out .exit)) r ⌝ }
+{
+    let cas = ranges::cas_of(content);
+    let sent = outgoing_class(content[0], class);
+    if actions::no_conditioning(cas) {
+        return unserved(ESCAPED, sent);
+    }
+    if conditioning::is_short(cas, prefix, digits.len()) {
+        return refused(SHORT);
+    }
+    let s = services::service_stage(ranges::sas_of(content), settings, lookup);
+    let fas = ranges::fas_of(content);
+    finish(
+        settings,
+        lookup,
+        digits,
+        cas,
+        prefix,
+        s,
+        fas,
+        class,
+        sent,
+        out,
+    )
+}
+
+// The digits of a body in range.
+fn digits_in<'a>(body: &'a [u8]) -> &'a [u8]
+    requires { ⌜ (length (now body) ≡ 73) × (numberInRange (now body) ≡ true) ⌝ }
+    ensures { λ r. ⌜ Digits (now (body .entry)) (now r) ⌝ }
+{
+    let e = buffer::wide(body[COUNT]) + DIGITS;
+    &body[DIGITS..e]
+}
+
+// The answer by the rule chosen, which stands at a place.
+fn answer_at<'a>(
+    plan: &'a [u8],
+    body: &'a [u8],
+    digits: &'a [u8],
+    place: RulePlace,
+    out: &mut [u8],
+) -> Answered
+    requires { ⌜ Placed (now plan) (now body) (now digits) (place .0) (now out) ⌝ }
+    ensures { λ r. ⌜ GivesAnswer (answerOf (planOf (now (plan .entry))) (numberOf (now (body .entry)))) (now (out .entry)) (now (out .exit)) r ⌝ }
+{
+    let prefix = prefix_at(plan, place);
+    let content = content_at(plan, place);
+    let settings = plan::settings(plan);
+    let class = body[0];
+    answer_by(
+        settings,
+        &body[LOOKUP..BODY],
+        class,
+        digits,
+        prefix,
+        content,
+        out,
+    )
+}
+
+// The answer over a plan that is known to be sound, for a body of just its length that is in range.
+pub fn answer_known<'a>(plan: &'a [u8], body: &'a [u8], out: &mut [u8]) -> Answered
+    requires { ⌜ Ready (now plan) (now body) (now out) ⌝ }
+    ensures { λ r. ⌜ GivesAnswer (answerOf (planOf (now (plan .entry))) (numberOf (now (body .entry)))) (now (out .entry)) (now (out .exit)) r ⌝ }
+{
+    let digits = digits_in(body);
+    let class = body[0];
+    match choose(plan, class, digits) {
+        Chosen::NoRule => unserved(NO_RULE, class),
+        Chosen::At(place) => answer_at(plan, body, digits, place, out),
+    }
+}
+
+// The answer to a number, for any plan bytes, any body bytes and any buffer.
+pub fn answer<'a>(plan: &'a [u8], body: &'a [u8], out: &mut [u8]) -> Answered
+    ensures { λ r. ⌜ AnswerPromise (now (plan .entry)) (now (body .entry)) (now (out .entry)) (now (out .exit)) r ⌝ }
+{
+    if body.len() < BODY {
+        return refused(CUT);
+    }
+    if !examiner::sound(plan) {
+        return refused(PLAN);
+    }
+    if out.len() < ROOM_BYTES {
+        return refused(ROOM);
+    }
+    let number = &body[0..BODY];
+    if !settings::number_in_range(number) {
+        return refused(RANGE);
+    }
+    answer_known(plan, number, out)
+}
