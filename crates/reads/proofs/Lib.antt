@@ -1,0 +1,4 @@
+pub mod SetReads
+pub mod NumberReads
+pub mod Spans
+pub mod AfterCalls
