@@ -153,6 +153,7 @@ pub enum Order {
 }
 
 // The answer to a number. The digits themselves stand at the front of the lent buffer.
+#[repr(C)]
 pub struct Answered {
     pub refusal: u8,
     pub outcome: u8,
@@ -164,6 +165,7 @@ pub struct Answered {
 }
 
 // A stretch of the incoming number: where it starts, and how many digits it has.
+#[repr(C)]
 pub struct Span {
     pub start: usize,
     pub count: usize,
