@@ -15,11 +15,11 @@ use Rattle.meaning.specs.Rules.{Rule, filterIn, names, hasFilter, setNamed, inO
 use Rattle.meaning.specs.Plan.{Plan, roomsIn, held, referrers, fresh, withSlot, withRules}
 use Rattle.meaning.specs.Reads.{Read, setContent, referrerCount}
 use Rattle.meaning.specs.Calls.{Operation, openPlan, addSet, replaceSet, removeSet, addRule, changeRule, removeRule, Call, bodyOf, codeGiven, setGiven, ruleGiven, holdsFilter, changeRuleLines, removeRuleLines, lacksBytes, linesOf, refusal, made, after}
-use Rattle.meaning.specs.LookBack.{contentAfter}
+use Rattle.meaning.specs.LookBack.{contentAfter, setAfter}
 use Rattle.meaning.specs.History.{noRule}
 use Rattle.meaning.proofs.Tests.{is-true, and-left, not-not, passed-at}
 use Rattle.meaning.proofs.Soundness.{Sound, accepted-passed}
-use Rattle.meaning.proofs.ReadBack.{heldIn, reads-back}
+use Rattle.meaning.proofs.ReadBack.{heldIn, setIn, reads-back}
 use Rattle.buffer.specs.Slots.{removeAt}
 use Rattle.filter.specs.Place.{Place, held as heldAt, absent as absentAt, filterPlace}
 use Rattle.filter.proofs.PlaceLaws.{HeldAt, absent-at, held-at}
@@ -194,3 +194,7 @@ module _ (c : Call) (m end : List ℕ) (p : Plan) (is : stateOf m ≡ some p) (p
         other-content = λ n out left r e q. subst (λ (x : Read). GivesRead x out left r) (before-content n (length out) e) q;
         other-referrers = λ n r e g h q. q ∙ before-count n e g h;
       }
+
+  -- the set that a filter's rule names: by the body for the body's filter, and every other filter as before
+  pub filters-after : (f : Filter) → setIn (stateOf end) f ≡ setAfter (c .operation) (bodyOf c) f (setNamed f (p .rules))
+  filters-after f = ap (λ (s : Option Plan). setIn s f) state-made ∙ reads-back (lacksBytes (length m)) p c is-sound accepted .filters f
