@@ -6,11 +6,18 @@ use mathlib.Core.Option.{some}
 use lib.ListN.{length}
 use lib.Dec.{T}
 use Rattle.meaning.specs.Filters.{filterOf}
-use Rattle.meaning.specs.Rules.{Rule, filterIn}
+use Rattle.meaning.specs.Rules.{Rule, filterIn, chosenPlace}
 use Rattle.meaning.specs.Actions.{actionsOf}
 use Rattle.meaning.specs.Groups.{fit}
 use Rattle.meaning.specs.Plan.{Plan, held, contentPasses}
+use Rattle.meaning.specs.Answers.{placeChosen}
+use Rattle.meaning.specs.declared.Chosen.{Chosen}
 use Rattle.filter.specs.Slots.{RULE-WIDTH, FilterBytes}
+use Rattle.plan.specs.Layout.{planOf}
+
+-- the place of the rule chosen, over a sound plan
+abbrev pub ChoicePromise : List ℕ → ℕ → List ℕ → Chosen → Type 0
+ChoicePromise m class ds c = placeChosen c ≡ chosenPlace class ds (planOf m .rules)
 
 -- s is the slot of rule r: it begins with the bytes of r's filter
 pub record RuleSlot (r : Rule) (s : List ℕ) : Type 0 where

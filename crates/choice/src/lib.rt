@@ -3,12 +3,10 @@ ghost use mathlib.Core.Path.{_≡_};
 ghost use mathlib.Core.Bool.{true};
 ghost use Prim.Native.Nat.{_<_};
 ghost use lib.ListN.{getD};
-ghost use Rattle.meaning.specs.Rules.{chosenPlace};
 ghost use Rattle.meaning.specs.History.{noRule};
-ghost use Rattle.meaning.specs.Answers.{placeChosen};
 ghost use Rattle.plan.specs.Layout.{ruleCount, planOf};
 ghost use Rattle.plan.specs.State.{soundOf};
-ghost use Rattle.choice.specs.Chosen.{RuleSlot, Prefix, NamedContent};
+ghost use Rattle.choice.specs.Chosen.{ChoicePromise, RuleSlot, Prefix, NamedContent};
 use meaning::Chosen;
 use meaning::RulePlace;
 
@@ -18,7 +16,7 @@ const PREFIX: usize = 1;
 // The rule for a number.
 pub fn choose(plan: &[u8], class: u8, digits: &[u8]) -> Chosen
     requires { ⌜ soundOf (now plan) ≡ true ⌝ }
-    ensures { λ r. ⌜ placeChosen r ≡ chosenPlace class (now (digits .entry)) (planOf (now (plan .entry)) .rules) ⌝ }
+    ensures { λ r. ⌜ ChoicePromise (now (plan .entry)) class (now (digits .entry)) r ⌝ }
 {
     filter::choose(plan::rules(plan), plan::rule_count(plan), class, digits)
 }

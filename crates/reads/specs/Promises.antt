@@ -1,5 +1,5 @@
 -- What the read calls promise, for any plan memory, any arguments and any lent buffer.
-use Prim.Native.Nat.{ℕ}
+use Prim.Native.Nat.{ℕ, _+_}
 use mathlib.Core.Path.{_≡_}
 use mathlib.Core.List.{List}
 use lib.ListN.{length}
@@ -26,9 +26,14 @@ ContentPromise m n out after r = GivesRead (setContent (stateOf m) (length out) 
 abbrev pub ReferrersPromise : List ℕ → ℕ → Counted → Type 0
 ReferrersPromise m n r = countOf r ≡ referrerCount (stateOf m) n
 
--- the start and the count of the stretch, and the very part of the digits that they name
+-- the start and the count of the stretch
 abbrev pub SpanPromise : List ℕ → ℕ → List ℕ → ℕ → Span → Type 0
 SpanPromise m class ds v r = r ≡ spanOf (stretch (stateOf m) class ds v)
 
-abbrev pub StretchPromise : List ℕ → ℕ → List ℕ → ℕ → List ℕ → Type 0
-StretchPromise m class ds v part = part ≡ digitsAt (stretch (stateOf m) class ds v) ds
+-- "the very stretch of the incoming number": `at` and `partAt` tell where the digits and the part stand, a block of memory and a place in it
+pub record GivesStretch (s : Stretch) (ds : List ℕ) (at : ℕ × ℕ) (part : List ℕ) (partAt : ℕ × ℕ) : Type 0 where
+  pub digits : part ≡ digitsAt s ds
+  pub place : partAt ≡ (at .0, at .1 + s .start)
+
+abbrev pub StretchPromise : List ℕ → ℕ → List ℕ → ℕ × ℕ → ℕ → List ℕ → ℕ × ℕ → Type 0
+StretchPromise m class ds at v part partAt = GivesStretch (stretch (stateOf m) class ds v) ds at part partAt

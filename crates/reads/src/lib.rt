@@ -48,7 +48,8 @@ fn write_content(set: SetNumber, content: &[u8], out: &mut [u8])
     buffer::copy(&mut out[CONTENT..SET], content);
 }
 
-fn set_content_known(plan: &[u8], set: SetNumber, out: &mut [u8]) -> Written
+// Over a plan that is known to be sound, with room for the body.
+pub fn set_content_known(plan: &[u8], set: SetNumber, out: &mut [u8]) -> Written
     requires { ⌜ (soundOf (now plan) ≡ true) × (47 ≤ length (now out)) ⌝ }
     ensures { λ r. ⌜ GivesRead (setContent (some (planOf (now (plan .entry)))) (length (now (out .entry))) (set .0)) (now (out .entry)) (now (out .exit)) r ⌝ }
 {
@@ -77,7 +78,8 @@ pub fn set_content(plan: &[u8], set: SetNumber, out: &mut [u8]) -> Written
 
 // THE COUNT OF RULES NAMING A SET
 
-fn referrers_known(plan: &[u8], set: SetNumber) -> Counted
+// Over a plan that is known to be sound.
+pub fn referrers_known(plan: &[u8], set: SetNumber) -> Counted
     requires { ⌜ soundOf (now plan) ≡ true ⌝ }
     ensures { λ r. ⌜ countOf r ≡ referrerCount (some (planOf (now (plan .entry)))) (set .0) ⌝ }
 {
@@ -120,7 +122,8 @@ fn conditioned_at<'a>(plan: &'a [u8], place: RulePlace, digits: &'a [u8], out: &
     Written::Bytes(formatting::write_conditioned(settings, digits, cas, prefix, out))
 }
 
-fn conditioned_known<'a>(plan: &'a [u8], class: u8, digits: &'a [u8], out: &mut [u8]) -> Written
+// Over a plan that is known to be sound, for digits in range, with room for the number.
+pub fn conditioned_known<'a>(plan: &'a [u8], class: u8, digits: &'a [u8], out: &mut [u8]) -> Written
     requires { ⌜ (soundOf (now plan) ≡ true) × (dialledInRange class (now digits) ≡ true) × (35 ≤ length (now out)) ⌝ }
     ensures { λ r. ⌜ GivesRead (conditionedUnder (planOf (now (plan .entry))) (now (digits .entry)) (chosen class (now (digits .entry)) (planOf (now (plan .entry)) .rules))) (now (out .entry)) (now (out .exit)) r ⌝ }
 {
@@ -158,7 +161,8 @@ fn is_conditioned(value: u8) -> bool
     value <= LAST_CONDITIONED
 }
 
-fn span_known(plan: &[u8], class: u8, digits: &[u8], value: u8) -> Span
+// Over a plan that is known to be sound, for digits and a value in range.
+pub fn span_known(plan: &[u8], class: u8, digits: &[u8], value: u8) -> Span
     requires { ⌜ soundOf (now plan) ≡ true ⌝ }
     ensures { λ r. ⌜ Covers (length (now (digits .entry))) (stretchUnder (planOf (now (plan .entry))) value (length (now (digits .entry))) (chosen class (now (digits .entry)) (planOf (now (plan .entry)) .rules))) r ⌝ }
 {
@@ -190,7 +194,7 @@ pub fn span(plan: &[u8], class: u8, digits: &[u8], value: u8) -> Span
 
 // The very part of the incoming digits.
 pub fn stretch<'a>(plan: &[u8], class: u8, digits: &'a [u8], value: u8) -> &'a [u8]
-    ensures { λ r. ⌜ StretchPromise (now (plan .entry)) class (now (digits .entry)) value (now r) ⌝ }
+    ensures { λ r. ⌜ StretchPromise (now (plan .entry)) class (now (digits .entry)) (digits .entry .ptr) value (now r) (r .ptr) ⌝ }
 {
     let s = span(plan, class, digits, value);
     let start = s.start;
