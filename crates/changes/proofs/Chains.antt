@@ -125,7 +125,7 @@ chain-state (next {c} {cs} {m = m} {between = b} p t) =
 abbrev opening : List ℕ → Call
 opening b = record { operation = openPlan; body = b }
 
-same-refusal : (lacks : List ℕ → Bool) (s : Option Plan) (b : List ℕ) → refusal lacks s (opening b) ≡ refusal lacks none (opening b)
+pub same-refusal : (lacks : List ℕ → Bool) (s : Option Plan) (b : List ℕ) → refusal lacks s (opening b) ≡ refusal lacks none (opening b)
 unfolding refusal
 same-refusal lacks s b = refl
 

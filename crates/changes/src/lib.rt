@@ -10,7 +10,26 @@ ghost use Rattle.meaning.specs.Reads.{overRoom};
 ghost use Rattle.meaning.specs.Answers.{setOf};
 ghost use Rattle.filter.specs.Slots.{FilterBytes};
 ghost use Rattle.plan.specs.Layout.{planOf};
+ghost use Rattle.changes.specs.Bodies.{BodyBytes};
 use meaning::SetNumber;
+
+// How many bytes the body of a record has, by its kind; none for a byte that is no kind.
+pub fn body_length(kind: u8) -> usize
+    ensures { λ r. ⌜ BodyBytes kind r ⌝ }
+{
+    match kind {
+        0 => 40,
+        1 => 47,
+        2 => 47,
+        3 => 2,
+        4 => 21,
+        5 => 21,
+        6 => 19,
+        7 => 73,
+        8 => 2,
+        _ => 0,
+    }
+}
 
 // The set number at a place of a body.
 pub fn set_number(body: &[u8], at: usize) -> SetNumber

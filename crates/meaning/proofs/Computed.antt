@@ -9,7 +9,7 @@ use mathlib.Core.List.{List, [], _∷_, _++_, map, reverse}
 use mathlib.Core.Option.{Option, none, some}
 use lib.ListN.{take, drop, set, replicate}
 use lib.Dec.{ltb}
-use Rattle.meaning.specs.Basics.{if_then_else_, writtenOver}
+use Rattle.meaning.specs.Basics.{if_then_else_, writtenOver, padded}
 use Rattle.meaning.specs.Settings.{roomsOf, roomsInRange, bytesNeeded, settingsOf, settingsInRange, lookupOf, entityInRange, asdOrGrnInRange, lookupInRange, numberOf, numberInRange, dialledInRange}
 use Rattle.meaning.specs.Filters.{filterOf, filterInRange, fitsNumber, rank, compareFilters}
 use Rattle.meaning.specs.Rules.{firstLargest, weight, chosenPlace, chosen}
@@ -31,7 +31,7 @@ use Rattle.meaning.specs.declared.ClassOf.the-variants.{Known, Unknown a
 use Rattle.meaning.specs.declared.OutgoingOf.{OutgoingOf}
 use Rattle.meaning.specs.declared.OutgoingOf.the-variants.{Given, AsIncoming, Unknown as UnknownOutgoing}
 use Rattle.meaning.specs.declared.Refusal.the-variants.{Cut, Kind, Plan as PlanRefused, Room, Range, Groups, Taken, Absent, Misfit, Full, InUse, Short, Long}
-use Rattle.meaning.specs.Examples.{padded, string}
+use Rattle.meaning.specs.Examples.{string}
 use Rattle.meaning.specs.Run.{ascii, file, run, nineLines}
 
 -- every definition that is computed with

@@ -164,7 +164,7 @@ reach lacks p past (c ∷ cs) a =
 
 -- REMOVING A HELD SET
 
-held-below : (p : Plan) (n : ℕ) → Sound p → T (isSome (held p n)) → overRoom p n ≡ false
+pub held-below : (p : Plan) (n : ℕ) → Sound p → T (isSome (held p n)) → overRoom p n ≡ false
 held-below p n s t = rw (← s .room) (go (leb (length (p .slots)) n) refl)
   where
     go : (b : Bool) → leb (length (p .slots)) n ≡ b → leb (length (p .slots)) n ≡ false

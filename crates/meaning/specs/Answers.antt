@@ -3,14 +3,14 @@ use Prim.Native.Nat.{ℕ, Ordering, Ordering·lt, Ordering·eq, Ordering·gt}
 use mathlib.Core.Path.{_≡_}
 use mathlib.Core.List.{List, [], _∷_}
 use mathlib.Core.Option.{Option, none, some}
-use lib.ListN.{length}
+use lib.ListN.{length, replicate}
 use lib.Dec.{eqb}
-use Rattle.meaning.specs.Basics.{if_then_else_}
+use Rattle.meaning.specs.Basics.{if_then_else_, padded}
 use Rattle.meaning.specs.Refusals.{ACCEPTED, CUT, KIND, PLAN, ROOM, RANGE, GROUPS, TAKEN, ABSENT, MISFIT, FULL, IN-USE, SHORT, LONG}
 use Rattle.meaning.specs.Settings.{isClass, AS-INCOMING}
 use Rattle.meaning.specs.Answer.{Answer}
 use Rattle.meaning.specs.Conditioning.{Stretch}
-use Rattle.meaning.specs.Reads.{Read, Count}
+use Rattle.meaning.specs.Reads.{Read, Count, Listed}
 use Rattle.meaning.specs.declared.Class.{Class}
 use Rattle.meaning.specs.declared.ClassOf.{ClassOf}
 use Rattle.meaning.specs.declared.ClassOf.the-variants.{Known, Unknown as UnknownClass}
@@ -32,6 +32,7 @@ use Rattle.meaning.specs.declared.Order.{Order}
 use Rattle.meaning.specs.declared.Order.the-variants.{Before, Same, After}
 use Rattle.meaning.specs.declared.Answered.{Answered}
 use Rattle.meaning.specs.declared.Span.{Span}
+use Rattle.meaning.specs.declared.ListedRule.{ListedRule}
 
 -- CLASSES
 
@@ -108,6 +109,19 @@ abbrev pub orderingOf : Order → Ordering
 orderingOf Before = Ordering·lt
 orderingOf Same = Ordering·eq
 orderingOf After = Ordering·gt
+
+-- a rule of the listing, or the number of a refusal: "every other field 0"
+abbrev pub ruleListed : ℕ × Option Listed → ListedRule
+ruleListed (r, none) = record { refusal = r; class = 0; digits = 0; prefix = replicate 16 0; length = 0; set = setOf 0 }
+ruleListed (r, some l) =
+    record {
+      refusal = r;
+      class = l .filter .class;
+      digits = length (l .filter .prefix);
+      prefix = padded 16 (l .filter .prefix);
+      length = l .filter .len;
+      set = setOf (l .set);
+    }
 
 -- THE ANSWER TO A NUMBER: the digits are counted here, and stand in the lent buffer
 

@@ -1,9 +1,9 @@
 -- Tests, parts of lists, and the bytes that document 01's records are made of. Nothing here is particular to numbering plans.
-use Prim.Native.Nat.{ℕ, zero, suc, _+_, _*_}
+use Prim.Native.Nat.{ℕ, zero, suc, _+_, _-_, _*_}
 use mathlib.Core.Bool.{Bool, true, false, _&&_, _||_}
 use mathlib.Core.List.{List, [], _∷_, _++_}
 use mathlib.Core.Option.{Option, none, some}
-use lib.ListN.{length, take, drop, getD}
+use lib.ListN.{length, take, drop, getD, replicate}
 use lib.Dec.{leb, eqb}
 
 -- TESTS
@@ -79,6 +79,10 @@ isDigit d = leb d 15
 abbrev pub digitsOf : List ℕ → List ℕ
 digitsOf [] = []
 digitsOf (n ∷ ds) = take n ds
+
+-- "Unused bytes are 0": filled up to n bytes
+abbrev pub padded : ℕ → List ℕ → List ℕ
+padded n xs = xs ++ replicate (n - length xs) 0
 
 -- it has lo to hi digits, each a digit; "Unused bytes are 0"
 abbrev pub digitsInRange : ℕ → ℕ → List ℕ → Bool

@@ -1,11 +1,11 @@
 -- Document 01's marked examples, M1 to M12, as one table: the calls that make the plan, what is asked, and the result, every field of it.
-use Prim.Native.Nat.{ℕ, _-_}
+use Prim.Native.Nat.{ℕ}
 use mathlib.Core.Path.{_≡_}
 use mathlib.Core.Bool.{Bool, true, false}
 use mathlib.Core.List.{List, [], _∷_, _++_, map}
 use mathlib.Core.Option.{Option, none, some}
 use lib.ListN.{length, replicate}
-use Rattle.meaning.specs.Basics.{if_then_else_}
+use Rattle.meaning.specs.Basics.{if_then_else_, padded}
 use Rattle.meaning.specs.Rules.{Rule, chosen}
 use Rattle.meaning.specs.Plan.{Plan}
 use Rattle.meaning.specs.Answer.{Answer, answer}
@@ -13,10 +13,6 @@ use Rattle.meaning.specs.Reads.{Read, conditioned, Listed, listed}
 use Rattle.meaning.specs.Calls.{Operation, openPlan, addSet, addRule, Call, lacksBytes, putIn, refusalsFrom}
 
 -- THE BODIES
-
--- filled up to n bytes with unused ones
-abbrev pub padded : ℕ → List ℕ → List ℕ
-padded n xs = xs ++ replicate (n - length xs) 0
 
 abbrev pub string : ℕ → List ℕ → List ℕ
 string n ds = length ds ∷ padded n ds

@@ -1,6 +1,6 @@
 // The types that promises name. What each means is defined in specs/: document 01's numbers and values for every case.
 ghost use mathlib.Core.Path.{_≡_};
-ghost use Rattle.meaning.specs.Answers.{classOf, outgoingOf, codeOf, numberOfRefusal};
+ghost use Rattle.meaning.specs.Answers.{classOf, outgoingOf, codeOf, numberOfRefusal, numberOfProvisioned};
 
 // A class of numbers: INTL, NATL, UNKNOWN and three house classes.
 pub struct Class(u8);
@@ -121,6 +121,18 @@ pub enum Provisioned {
     Refused(Refusal),
 }
 
+impl Provisioned {
+    // 0 for an accepted call, else the number of its refusal.
+    pub fn number(self) -> u8
+        ensures { λ r. ⌜ r ≡ numberOfProvisioned self ⌝ }
+    {
+        match self {
+            Provisioned::Accepted => 0,
+            Provisioned::Refused(r) => r.number(),
+        }
+    }
+}
+
 // What a call that writes answers: how many bytes.
 pub enum Written {
     Bytes(usize),
@@ -169,4 +181,15 @@ pub struct Answered {
 pub struct Span {
     pub start: usize,
     pub count: usize,
+}
+
+// A rule of the listing: its filter's class, how many digits its prefix has, the prefix at its full width with unused bytes 0, the length, and
+// the set that it names. Where there is a refusal: its number, and every other field 0.
+pub struct ListedRule {
+    pub refusal: u8,
+    pub class: u8,
+    pub digits: u8,
+    pub prefix: [u8; 16],
+    pub length: u8,
+    pub set: SetNumber,
 }

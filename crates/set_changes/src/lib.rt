@@ -20,7 +20,8 @@ use meaning::Refusal;
 use meaning::RulePlace;
 use meaning::SetNumber;
 
-fn opening_refusal(size: usize, body: &[u8]) -> Provisioned
+// The refusal of an opening over a memory of `size` bytes.
+pub fn opening_refusal(size: usize, body: &[u8]) -> Provisioned
     requires { ⌜ length (now body) ≡ 40 ⌝ }
     ensures { λ r. ⌜ numberOfProvisioned r ≡ firstOf (openingLines (lacksBytes size) (now (body .entry))) ⌝ }
 {
