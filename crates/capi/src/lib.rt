@@ -1,17 +1,19 @@
 // The calls for C and Rust, over numbers and byte slices: each promises what the call that it stands for promises.
 ghost use mathlib.Core.Path.{_≡_};
 ghost use Rattle.meaning.specs.Calls.{openPlan, addSet, replaceSet, removeSet, addRule, changeRule, removeRule};
-ghost use Rattle.meaning.specs.Answers.{numberOfProvisioned, countOf};
-ghost use Rattle.meaning.specs.Reads.{conditioned, setContent, referrerCount};
+ghost use Rattle.meaning.specs.Answers.{countOf, ruleListed};
+ghost use Rattle.meaning.specs.Reads.{conditioned, setContent, referrerCount, ruleCount, ruleAtPlace};
 ghost use Rattle.plan.specs.State.{soundOf, stateOf};
 ghost use Rattle.changes.specs.Promise.{Provides, calls};
 ghost use Rattle.number.specs.Promises.{AnswerPromise};
 ghost use Rattle.reads.specs.Promises.{SpanPromise};
-ghost use Rattle.capi.specs.Given.{WrittenAs, CountedAs, GivesWritten};
+ghost use Rattle.history.specs.Replays.{Replays};
+ghost use Rattle.capi.specs.Given.{WrittenAs, CountedAs, ListedAs, GivesWritten};
 ghost use lib.ListN.{length};
 use meaning::Answered;
 use meaning::Counted;
-use meaning::Provisioned;
+use meaning::ListedRule;
+use meaning::RulePlace;
 use meaning::SetNumber;
 use meaning::Span;
 use meaning::Written;
@@ -30,6 +32,17 @@ pub struct NppCounted {
     pub rules: usize,
 }
 
+// What the listing gives of a rule: the number of its refusal or 0; class, how many digits the prefix has, length; the prefix, its unused bytes 0; the set.
+#[repr(C)]
+pub struct NppListed {
+    pub refusal: u8,
+    pub class: u8,
+    pub digits: u8,
+    pub length: u8,
+    pub prefix: [u8; 16],
+    pub set: u16,
+}
+
 // Whether a memory is a sound plan of this build.
 #[no_mangle]
 pub extern "C" fn npp_sound(memory: &[u8]) -> bool
@@ -38,22 +51,12 @@ pub extern "C" fn npp_sound(memory: &[u8]) -> bool
     examiner::sound(memory)
 }
 
-// 0 for an accepted call, else the number of its refusal.
-fn number(answer: Provisioned) -> u8
-    ensures { λ r. ⌜ r ≡ numberOfProvisioned answer ⌝ }
-{
-    match answer {
-        Provisioned::Accepted => 0,
-        Provisioned::Refused(r) => r.number(),
-    }
-}
-
 // Opens a plan over a memory, whatever it holds.
 #[no_mangle]
 pub extern "C" fn npp_open(plan: &mut [u8], body: &[u8]) -> u8
     ensures { λ r. ⌜ Provides (calls openPlan (now (body .entry))) (now (plan .entry)) (now (plan .exit)) r ⌝ }
 {
-    number(provision::open(plan, body))
+    provision::open(plan, body).number()
 }
 
 // Adds a set.
@@ -61,7 +64,7 @@ pub extern "C" fn npp_open(plan: &mut [u8], body: &[u8]) -> u8
 pub extern "C" fn npp_add_set(plan: &mut [u8], body: &[u8]) -> u8
     ensures { λ r. ⌜ Provides (calls addSet (now (body .entry))) (now (plan .entry)) (now (plan .exit)) r ⌝ }
 {
-    number(provision::add_set(plan, body))
+    provision::add_set(plan, body).number()
 }
 
 // Replaces the content of a set.
@@ -69,7 +72,7 @@ pub extern "C" fn npp_add_set(plan: &mut [u8], body: &[u8]) -> u8
 pub extern "C" fn npp_replace_set(plan: &mut [u8], body: &[u8]) -> u8
     ensures { λ r. ⌜ Provides (calls replaceSet (now (body .entry))) (now (plan .entry)) (now (plan .exit)) r ⌝ }
 {
-    number(provision::replace_set(plan, body))
+    provision::replace_set(plan, body).number()
 }
 
 // Removes a set that no rule names.
@@ -77,7 +80,7 @@ pub extern "C" fn npp_replace_set(plan: &mut [u8], body: &[u8]) -> u8
 pub extern "C" fn npp_remove_set(plan: &mut [u8], body: &[u8]) -> u8
     ensures { λ r. ⌜ Provides (calls removeSet (now (body .entry))) (now (plan .entry)) (now (plan .exit)) r ⌝ }
 {
-    number(provision::remove_set(plan, body))
+    provision::remove_set(plan, body).number()
 }
 
 // Adds a rule.
@@ -85,7 +88,7 @@ pub extern "C" fn npp_remove_set(plan: &mut [u8], body: &[u8]) -> u8
 pub extern "C" fn npp_add_rule(plan: &mut [u8], body: &[u8]) -> u8
     ensures { λ r. ⌜ Provides (calls addRule (now (body .entry))) (now (plan .entry)) (now (plan .exit)) r ⌝ }
 {
-    number(provision::add_rule(plan, body))
+    provision::add_rule(plan, body).number()
 }
 
 // Changes the set that a rule names.
@@ -93,7 +96,7 @@ pub extern "C" fn npp_add_rule(plan: &mut [u8], body: &[u8]) -> u8
 pub extern "C" fn npp_change_rule(plan: &mut [u8], body: &[u8]) -> u8
     ensures { λ r. ⌜ Provides (calls changeRule (now (body .entry))) (now (plan .entry)) (now (plan .exit)) r ⌝ }
 {
-    number(provision::change_rule(plan, body))
+    provision::change_rule(plan, body).number()
 }
 
 // Removes a rule.
@@ -101,7 +104,7 @@ pub extern "C" fn npp_change_rule(plan: &mut [u8], body: &[u8]) -> u8
 pub extern "C" fn npp_remove_rule(plan: &mut [u8], body: &[u8]) -> u8
     ensures { λ r. ⌜ Provides (calls removeRule (now (body .entry))) (now (plan .entry)) (now (plan .exit)) r ⌝ }
 {
-    number(provision::remove_rule(plan, body))
+    provision::remove_rule(plan, body).number()
 }
 
 // Answers a number.
@@ -177,4 +180,43 @@ pub extern "C" fn npp_stretch(plan: &[u8], class: u8, digits: &[u8], value: u8) 
     ensures { λ r. ⌜ SpanPromise (now (plan .entry)) class (now (digits .entry)) value r ⌝ }
 {
     reads::span(plan, class, digits, value)
+}
+
+// How many rules are listed.
+#[no_mangle]
+pub extern "C" fn npp_rule_count(plan: &[u8]) -> NppCounted
+    ensures { λ r. ⌜ CountedAs (ruleCount (stateOf (now (plan .entry)))) r ⌝ }
+{
+    counted(listing::rule_count(plan))
+}
+
+fn listed(l: ListedRule) -> NppListed
+    ensures { λ r. ⌜ ListedAs l r ⌝ }
+{
+    let prefix = l.prefix;
+    let set = l.set;
+    NppListed {
+        refusal: l.refusal,
+        class: l.class,
+        digits: l.digits,
+        length: l.length,
+        prefix: prefix,
+        set: set.0,
+    }
+}
+
+// The rule at a place of the listing.
+#[no_mangle]
+pub extern "C" fn npp_rule_at(plan: &[u8], place: u16) -> NppListed
+    ensures { λ r. ⌜ ListedAs (ruleListed (ruleAtPlace (stateOf (now (plan .entry))) place)) r ⌝ }
+{
+    listed(listing::rule_at(plan, RulePlace(place)))
+}
+
+// Runs a list of provisioning calls, given as house records, on one plan memory; writes the number of each, and answers how many were carried out.
+#[no_mangle]
+pub extern "C" fn npp_replay(plan: &mut [u8], calls: &[u8], numbers: &mut [u8]) -> usize
+    ensures { λ r. ⌜ Replays (now (plan .entry)) (now (calls .entry)) (now (numbers .entry)) (now (plan .exit)) (now (numbers .exit)) r ⌝ }
+{
+    history::replay(plan, calls, numbers)
 }

@@ -1,0 +1,3 @@
+pub mod Going
+pub mod Demand3
+pub mod Replayed

@@ -1,0 +1,45 @@
+-- The test of the definition at a place, one part at a time.
+use mathlib.Core.Path.{sym, _∙_}
+use native.Mathlib.Omega.{arith}
+use borrow.Author.Needs.{needs}
+use borrow.Author.Tests.{le-leb, lt-leb}
+use Rattle.history.proofs.Going.{none-past, whole-is}
+use Rattle.history.proofs.is_whole.Statement.{statement}
+use Rattle.history.proofs.is_whole.Tie as tie
+
+returns : tie.Need-returns
+returns c = sym (none-past _ _ (c .if1 .taken))
+
+shared-slice-read-kind : tie.Need-shared-slice-read-kind
+shared-slice-read-kind c = search needs
+
+returns-2 : tie.Need-returns-2
+returns-2 c =
+    let a = c .before .before .before .before .args in
+    sym (whole-is (a .calls .now) (a .at) (omega arith) ∙ rw (lt-leb _ 6 (c .if2 .taken)))
+
+add-body : tie.Need-add-body
+add-body c = search needs
+
+body-length-requires : tie.Need-body-length-requires
+body-length-requires c κs = search needs
+
+sub-result : tie.Need-sub-result
+sub-result c = search needs
+
+returns-3 : tie.Need-returns-3
+returns-3 c =
+    let a = c .before .before .before .before .before .args in
+    sym (whole-is (a .calls .now) (a .at) (omega arith) ∙ rw (le-leb _ 6 (c .before .if2 .left), c .body-length .ensures .is))
+
+pub is-whole-spec : {M : Type 1} → statement M
+is-whole-spec =
+    tie.close
+    (tie.spec
+    returns
+    shared-slice-read-kind
+    returns-2
+    add-body
+    body-length-requires
+    sub-result
+    returns-3)

@@ -1,0 +1,3 @@
+pub mod Replays
+pub mod Parts
+pub mod Claim

@@ -1,0 +1,64 @@
+// A list of calls on one plan memory, run: demand 3 speaks of every such list.
+ghost use mathlib.Core.Path.{_≡_};
+ghost use Prim.Native.Nat.{_≤_};
+ghost use lib.ListN.{drop};
+ghost use Rattle.meaning.specs.Records.{callOf};
+ghost use Rattle.meaning.specs.Answers.{numberOfProvisioned};
+ghost use Rattle.changes.specs.Promise.{Provides};
+ghost use Rattle.history.specs.Replays.{Replays};
+ghost use Rattle.history.specs.Parts.{beginsWhole};
+use meaning::Provisioned;
+
+// The last kind that is a provisioning call.
+const LAST_CALL: u8 = 6;
+
+// Whether a whole record of a call begins at `at`.
+fn is_whole(calls: &[u8], at: usize) -> bool
+    ensures { λ r. ⌜ r ≡ beginsWhole (drop at (now (calls .entry))) ⌝ }
+{
+    if calls.len() <= at {
+        return false;
+    }
+    let kind = calls[at];
+    if LAST_CALL < kind {
+        return false;
+    }
+    let body = at + 1;
+    changes::body_length(kind) <= calls.len() - body
+}
+
+// The call of a kind, 0 to 6.
+fn carry_out(plan: &mut [u8], kind: u8, body: &[u8]) -> Provisioned
+    ensures { λ r. ⌜ Provides (callOf kind (now (body .entry))) (now (plan .entry)) (now (plan .exit)) (numberOfProvisioned r) ⌝ }
+{
+    match kind {
+        0 => provision::open(plan, body),
+        1 => provision::add_set(plan, body),
+        2 => provision::replace_set(plan, body),
+        3 => provision::remove_set(plan, body),
+        4 => provision::add_rule(plan, body),
+        5 => provision::change_rule(plan, body),
+        _ => provision::remove_rule(plan, body),
+    }
+}
+
+// Runs the calls of a list of house records, of kinds 0 to 6, on one plan memory, and writes the number of each. It ends before the first byte that is no such
+// kind, before the first record that is cut, and where `numbers` is full.
+pub fn replay(plan: &mut [u8], calls: &[u8], numbers: &mut [u8]) -> usize
+    ensures { λ r. ⌜ Replays (now (plan .entry)) (now (calls .entry)) (now (numbers .entry)) (now (plan .exit)) (now (numbers .exit)) r ⌝ }
+{
+    let mut done: usize = 0;
+    let mut at: usize = 0;
+    while done < numbers.len() {
+        if !is_whole(calls, at) {
+            return done;
+        }
+        let kind = calls[at];
+        let body = at + 1;
+        let end = body + changes::body_length(kind);
+        numbers[done] = carry_out(plan, kind, &calls[body..end]).number();
+        at = end;
+        done += 1;
+    }
+    done
+}

@@ -1,0 +1,107 @@
+// The listing: how many rules a plan holds, and the rule at a place in listing order; for any plan bytes and any place.
+ghost use mathlib.Core.Path.{_≡_};
+ghost use mathlib.Core.Bool.{true};
+ghost use mathlib.Core.Option.{none, some};
+ghost use Prim.Native.Nat.{_<_};
+ghost use lib.ListN.{length};
+ghost use Rattle.meaning.specs.Answers.{ruleListed};
+ghost use Rattle.meaning.specs.Reads.{listing, ruleAtPlace};
+ghost use Rattle.plan.specs.Layout.{ruleCount, planOf};
+ghost use Rattle.plan.specs.State.{soundOf};
+ghost use Rattle.listing.specs.Promises.{CountPromise, ListedPromise};
+use meaning::Counted;
+use meaning::ListedRule;
+use meaning::Refusal;
+use meaning::RulePlace;
+use meaning::SetNumber;
+
+// Where a filter has its prefix's length, its prefix and its own length.
+const COUNT: usize = 1;
+
+const PREFIX: usize = 2;
+
+const LENGTH: usize = 18;
+
+// The refusals.
+const PLAN: u8 = 3;
+
+const RANGE: u8 = 5;
+
+// THE COUNT OF RULES
+
+// Over a plan that is known to be sound.
+pub fn count_known(plan: &[u8]) -> usize
+    requires { ⌜ soundOf (now plan) ≡ true ⌝ }
+    ensures { λ r. ⌜ r ≡ length (listing (planOf (now (plan .entry)))) ⌝ }
+{
+    plan::rule_count(plan)
+}
+
+// How many rules are listed.
+pub fn rule_count(plan: &[u8]) -> Counted
+    ensures { λ r. ⌜ CountPromise (now (plan .entry)) r ⌝ }
+{
+    if !examiner::sound(plan) {
+        return Counted::Refused(Refusal::Plan);
+    }
+    Counted::Rules(count_known(plan))
+}
+
+// THE RULE AT A PLACE
+
+// A refusal: its number, and every other field 0.
+fn refused(number: u8) -> ListedRule
+    ensures { λ r. ⌜ r ≡ ruleListed (number, none) ⌝ }
+{
+    ListedRule {
+        refusal: number,
+        class: 0,
+        digits: 0,
+        prefix: [0u8; 16],
+        length: 0,
+        set: SetNumber(0),
+    }
+}
+
+// The rule at a place that is there.
+fn held_at(plan: &[u8], place: RulePlace) -> ListedRule
+    requires { ⌜ (soundOf (now plan) ≡ true) × (place .0 < ruleCount (now plan)) ⌝ }
+    ensures { λ r. ⌜ r ≡ ruleListed (ruleAtPlace (some (planOf (now (plan .entry)))) (place .0)) ⌝ }
+{
+    let slot = choice::rule_slot(plan, place);
+    let class = slot[0];
+    let digits = slot[COUNT];
+    let length = slot[LENGTH];
+    let end = PREFIX + buffer::wide(digits);
+    let mut prefix = [0u8; 16];
+    buffer::copy(&mut prefix, &slot[PREFIX..end]);
+    ListedRule {
+        refusal: 0,
+        class: class,
+        digits: digits,
+        prefix: prefix,
+        length: length,
+        set: plan::set_named(plan, place),
+    }
+}
+
+// Over a plan that is known to be sound.
+pub fn rule_known(plan: &[u8], place: RulePlace) -> ListedRule
+    requires { ⌜ soundOf (now plan) ≡ true ⌝ }
+    ensures { λ r. ⌜ r ≡ ruleListed (ruleAtPlace (some (planOf (now (plan .entry)))) (place .0)) ⌝ }
+{
+    if count_known(plan) <= place.0 as usize {
+        return refused(RANGE);
+    }
+    held_at(plan, place)
+}
+
+// The rule at a place of the listing.
+pub fn rule_at(plan: &[u8], place: RulePlace) -> ListedRule
+    ensures { λ r. ⌜ ListedPromise (now (plan .entry)) (place .0) r ⌝ }
+{
+    if !examiner::sound(plan) {
+        return refused(PLAN);
+    }
+    rule_known(plan, place)
+}
