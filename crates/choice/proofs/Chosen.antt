@@ -10,9 +10,10 @@ use lib.Seq.{length-take-le}
 use lib.Dec.{T}
 use Rattle.meaning.specs.Basics.{isSome}
 use Rattle.meaning.specs.Filters.{Filter, filterOf, fitsNumber}
-use Rattle.meaning.specs.Rules.{Rule, filterIn, chosenPlace, chosen, ruleAt}
+use Rattle.meaning.specs.Rules.{Rule, filterIn, chosenPlace, chosen, ruleAt, inOrder}
 use Rattle.meaning.specs.History.{noRule}
 use Rattle.meaning.specs.Plan.{held, NamesHeld}
+use Rattle.meaning.proofs.Tests.{is-true}
 use Rattle.meaning.proofs.Largest.{place-mem}
 use Rattle.meaning.proofs.Choice.{Choice, noRule as noneFits, theRule, choice}
 use Rattle.meaning.proofs.Soundness.{names-held}
@@ -37,6 +38,10 @@ area-is m area n part count = subst (λ k. RuleArea k area) (sym count) (part .a
 
 pub rules-are : (m area : List ℕ) (n : ℕ) → RulesPart m area → n ≡ ruleCount m → rulesOf n area ≡ planOf m .rules
 rules-are m area n part count = ap (λ k. rulesOf k area) count ∙ part .rules
+
+-- and they stand in listing order
+pub order-is : (m area : List ℕ) (n : ℕ) → soundOf m ≡ true → RulesPart m area → n ≡ ruleCount m → inOrder (rulesOf n area) ≡ true
+order-is m area n e part count = ap inOrder (rules-are m area n part count) ∙ is-true (inOrder (planOf m .rules)) (sound-is m e .plan .order)
 
 module _ (m : List ℕ) (k : ℕ) (below : k < ruleCount m) where
   stands : k < length (planOf m .rules)

@@ -18,7 +18,7 @@ pub fn choose(plan: &[u8], class: u8, digits: &[u8]) -> Chosen
     requires { ⌜ soundOf (now plan) ≡ true ⌝ }
     ensures { λ r. ⌜ ChoicePromise (now (plan .entry)) class (now (digits .entry)) r ⌝ }
 {
-    filter::choose(plan::rules(plan), plan::rule_count(plan), class, digits)
+    narrowing::choose(plan::rules(plan), plan::rule_count(plan), class, digits)
 }
 
 // The slot of the rule at a place.

@@ -1,14 +1,12 @@
-// Filters as bytes: range, fit, weight and listing order; and the choice and the lookup among rule slots of 24 bytes.
+// Filters as bytes: range and listing order; and the lookup of a filter among rule slots of 24 bytes.
 ghost use mathlib.Core.Path.{_≡_};
 ghost use Prim.Native.Nat.{_+_, _*_, _≤_, _<_};
 ghost use lib.ListN.{length, take, drop};
 ghost use Rattle.meaning.specs.Basics.{beginsWith};
-ghost use Rattle.meaning.specs.Filters.{filterOf, filterInRange, fitsNumber, comparePrefixes, compareLengths, compareFilters};
-ghost use Rattle.meaning.specs.Rules.{weight, chosenPlace};
-ghost use Rattle.meaning.specs.Answers.{placeChosen, orderingOf, setOf};
+ghost use Rattle.meaning.specs.Filters.{filterOf, filterInRange, comparePrefixes, compareLengths, compareFilters};
+ghost use Rattle.meaning.specs.Answers.{orderingOf, setOf};
 ghost use Rattle.filter.specs.Slots.{RULE-WIDTH, FILTER-WIDTH, FilterBytes, RuleArea, ruleOf, rulesOf};
 ghost use Rattle.filter.specs.Place.{filterPlace, placeGiven};
-use meaning::Chosen;
 use meaning::Class;
 use meaning::ClassOf;
 use meaning::FilterPlace;
@@ -66,61 +64,6 @@ pub fn begins_with(prefix: &[u8], digits: &[u8]) -> bool
         i += 1;
     }
     true
-}
-
-// Whether a filter fits a number.
-pub fn fits_number(code: &[u8], class: u8, digits: &[u8]) -> bool
-    requires { ⌜ FilterBytes (now code) ⌝ }
-    ensures { λ r. ⌜ r ≡ fitsNumber (filterOf (now (code .entry))) class (now (digits .entry)) ⌝ }
-{
-    if code[CLASS] != class {
-        return false;
-    }
-    let e = buffer::wide(code[PREFIX]) + DIGITS;
-    if !begins_with(&code[DIGITS..e], digits) {
-        return false;
-    }
-    let len = buffer::wide(code[LENGTH]);
-    if len == 0 {
-        return true;
-    }
-    len == digits.len()
-}
-
-// 0 for a filter that does not fit the number; the more specific of two that fit weighs more.
-pub fn weigh(code: &[u8], class: u8, digits: &[u8]) -> usize
-    requires { ⌜ FilterBytes (now code) ⌝ }
-    ensures { λ r. ⌜ r ≡ weight class (now (digits .entry)) (filterOf (now (code .entry))) ⌝ }
-{
-    if !fits_number(code, class, digits) {
-        return 0;
-    }
-    let p = 2 * buffer::wide(code[PREFIX]);
-    if code[LENGTH] == 0 {
-        return p + 1;
-    }
-    p + 2
-}
-
-// The rule for a number among the first `count` slots.
-pub fn choose(rules: &[u8], count: usize, class: u8, digits: &[u8]) -> Chosen
-    requires { ⌜ RuleArea count (now rules) ⌝ }
-    ensures { λ r. ⌜ placeChosen r ≡ chosenPlace class (now (digits .entry)) (rulesOf count (now (rules .entry))) ⌝ }
-{
-    let mut best = Chosen::NoRule;
-    let mut most: usize = 0;
-    let mut i: usize = 0;
-    while i < count {
-        let a = RULE_WIDTH * i;
-        let e = a + RULE_WIDTH;
-        let w = weigh(&rules[a..e], class, digits);
-        if most < w {
-            best = Chosen::At(RulePlace(i as u16));
-            most = w;
-        }
-        i += 1;
-    }
-    best
 }
 
 // The order of two prefixes as digits, the shorter first where one begins the other.

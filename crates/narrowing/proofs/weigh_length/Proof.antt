@@ -1,0 +1,47 @@
+-- By the length: wildcard, the number's own, or another.
+use mathlib.Core.Path.{sym, _∙_}
+use Rattle.narrowing.proofs.Prefixes.{weight-wildcard, weight-stated, weight-other}
+use borrow.Author.Needs.{needs}
+use Rattle.narrowing.proofs.weigh_length.Statement.{statement}
+use Rattle.narrowing.proofs.weigh_length.Tie as tie
+
+mul-result : tie.Need-mul-result
+mul-result c = search needs
+
+add-result : tie.Need-add-result
+add-result c = search needs
+
+returns : tie.Need-returns
+returns c = let a = c .before .args in sym (weight-wildcard (a .j) (a .n) (a .len) (c .if1 .taken))
+
+wide-requires : tie.Need-wide-requires
+wide-requires c κs = search needs
+
+mul-result-2 : tie.Need-mul-result-2
+mul-result-2 c = search needs
+
+add-result-2 : tie.Need-add-result-2
+add-result-2 c = search needs
+
+returns-2 : tie.Need-returns-2
+returns-2 c =
+    let a = c .before .before .before .args in
+    sym (weight-stated (a .j) (a .n) (a .len) (c .before .before .if1 .left) (sym (c .before .wide .ensures .is) ∙ c .if2 .taken))
+
+returns-3 : tie.Need-returns-3
+returns-3 c =
+    let a = c .before .before .before .args in
+    sym (weight-other (a .j) (a .n) (a .len) (c .before .before .if1 .left) (λ e. c .if2 .left (c .before .wide .ensures .is ∙ e)))
+
+pub weigh-length-spec : {M : Type 1} → statement M
+weigh-length-spec =
+    tie.close
+    (tie.spec
+    mul-result
+    add-result
+    returns
+    wide-requires
+    mul-result-2
+    add-result-2
+    returns-2
+    returns-3)
