@@ -1,0 +1,55 @@
+// The program: house records from the file that its one argument names, or from standard input, and their lines to standard output. A file that cannot be
+// opened, a read or a write that fails, is named on standard error.
+use libc::STDERR_FILENO;
+use libc::STDIN_FILENO;
+use libc::STDOUT_FILENO;
+use stream::Turned;
+
+// Names what failed.
+fn report(turned: Turned, name: &[u8]) {
+    match turned {
+        Turned::Goes(_) => {}
+        Turned::Done => {}
+        Turned::NotRead => os::fail(name),
+        Turned::NotWritten => os::fail(b"standard output"),
+    }
+}
+
+// The lines of the records that a descriptor gives.
+fn run(from: i32, name: &[u8]) {
+    let mut plan = [0u8; 15424];
+    let mut input = io::large_buffer();
+    let mut output = io::large_buffer();
+    let turned = stream::copy(from, STDOUT_FILENO, &mut plan, &mut input, &mut output);
+    report(turned, name);
+}
+
+// The lines of the records of a file.
+fn run_file(path: &[u8]) {
+    let fd = os::open_read(path);
+    if fd < 0 {
+        os::fail(path);
+        return;
+    }
+    run(fd, path);
+    libc::close(fd);
+}
+
+fn main() {
+    let count = os::arg_count();
+    if count < 2 {
+        run(STDIN_FILENO, b"standard input");
+        return;
+    }
+    if 2 < count {
+        io::write_all(STDERR_FILENO, b"usage: npp [FILE]\n");
+        return;
+    }
+    let mut path = io::buffer();
+    let n = os::arg(1, &mut path);
+    if os::errno() != 0 {
+        os::fail(b"the file's name");
+        return;
+    }
+    run_file(&path[..n]);
+}

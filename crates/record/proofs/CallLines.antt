@@ -1,0 +1,134 @@
+-- The lines of opening and provisioning, and the plan that they leave.
+use Prim.Native.Nat.{ℕ, zero, suc, _+_, _≤_}
+use mathlib.Core.Path.{_≡_, refl, ap, ap₂, sym, _∙_}
+use mathlib.Core.Bool.{Bool, true, false, _||_, not}
+use mathlib.Core.List.{List}
+use mathlib.Core.Option.{Option, none, some}
+use native.Mathlib.Omega.{arith}
+use lib.ListN.{length}
+use borrow.Author.Tests.{le-leb, ne-eqb, eq-eqb}
+use Rattle.meaning.specs.Basics.{if_then_else_, isZero, isSome, writtenOver}
+use Rattle.meaning.specs.Plan.{Plan}
+use Rattle.meaning.specs.Calls.{Operation, openPlan, addSet, replaceSet, removeSet, addRule, changeRule, removeRule, Call, bodyLength, bodyOf, refusal, made, after}
+use Rattle.meaning.specs.Records.{acceptedLine, lacksProgramRoom, operationOf, callOf, recordText, recordPlan}
+use Rattle.meaning.proofs.Tests.{is-false, at-below}
+use Rattle.plan.specs.Layout.{planOf}
+use Rattle.plan.specs.State.{soundOf, stateOf}
+use Rattle.changes.specs.Promise.{memoryOf}
+use Rattle.changes.proofs.PromiseLaws.{isOpening}
+use Rattle.run.specs.Runs.{InRun, RunProvides}
+use Rattle.run.proofs.RunLaws.{memory-kept, run-state}
+use Rattle.text.specs.Writes.{Writes}
+use Rattle.text.proofs.Lines.{front-is}
+use Rattle.record.specs.Turns.{Turn, wrote, recordTurn}
+use Rattle.record.specs.Promises.{lineOf, planAfter, ReadPromise, LinePromise, openedAfter}
+use Rattle.record.specs.declared.Run.{Run}
+use Rattle.record.specs.declared.Line.{Line}
+
+-- WHETHER A PLAN IS THERE
+
+pub sound-some : (m : List ℕ) → soundOf m ≡ isSome (stateOf m)
+unfolding stateOf
+sound-some m = go (soundOf m)
+  where
+    go : (b : Bool) → b ≡ isSome (if b then some (planOf m) else none)
+    go true = refl
+    go false = refl
+
+made-some : (o : Operation) (s : Option Plan) (b : List ℕ) → isSome (made o s b) ≡ (isSome s || isOpening o)
+made-some openPlan none b = refl
+made-some openPlan (some p) b = refl
+made-some addSet none b = refl
+made-some addSet (some p) b = refl
+made-some replaceSet none b = refl
+made-some replaceSet (some p) b = refl
+made-some removeSet none b = refl
+made-some removeSet (some p) b = refl
+made-some addRule none b = refl
+made-some addRule (some p) b = refl
+made-some changeRule none b = refl
+made-some changeRule (some p) b = refl
+made-some removeRule none b = refl
+made-some removeRule (some p) b = refl
+
+opening-kind : (k : ℕ) → k ≤ 6 → isOpening (operationOf k) ≡ isZero k
+unfolding operationOf
+opening-kind zero h = refl
+opening-kind (suc k) h =
+    is-false (isOpening (operationOf (suc k))) (at-below (λ (j : ℕ). not (isOpening (operationOf (suc j)))) 6 tt k (omega arith))
+    ∙ sym (ne-eqb (suc k) 0 (λ q. omega (arith, q)))
+
+after-some : (s : Option Plan) (k : ℕ) (body : List ℕ) → k ≤ 6
+    → isSome (after lacksProgramRoom s (callOf k body)) ≡ openedAfter (isSome s) k (refusal lacksProgramRoom s (callOf k body))
+unfolding after
+after-some s k body h = go (isZero (refusal lacksProgramRoom s (callOf k body)))
+  where
+    go : (b : Bool) → isSome (if b then made (operationOf k) s (bodyOf (callOf k body)) else s) ≡ (if b then isSome s || isZero k else isSome s)
+    go true = made-some (operationOf k) s (bodyOf (callOf k body)) ∙ ap (λ (x : Bool). isSome s || x) (opening-kind k h)
+    go false = refl
+
+-- what opened_after answers
+module _ (opened : Bool) (k number : ℕ) (n : ℕ) (e : n ≡ number) where
+  pub opened-kept : (n ≡ 0 → ⊥) → opened ≡ openedAfter opened k number
+  opened-kept h = rw (ne-eqb number 0 (λ q. h (e ∙ q)))
+
+  pub opened-now : n ≡ 0 → k ≡ 0 → true ≡ openedAfter opened k number
+  opened-now h z = rw (eq-eqb number 0 (sym e ∙ h), eq-eqb k 0 z) (go opened)
+    where
+      go : (b : Bool) → true ≡ (b || true)
+      go true = refl
+      go false = refl
+
+  pub opened-same : n ≡ 0 → (k ≡ 0 → ⊥) → opened ≡ openedAfter opened k number
+  opened-same h z = rw (eq-eqb number 0 (sym e ∙ h), ne-eqb k 0 z) (go opened)
+    where
+      go : (b : Bool) → b ≡ (b || false)
+      go true = refl
+      go false = refl
+
+-- THE RECORD OF A CALL
+
+call-turn : (s : Option Plan) (lines k : ℕ) (body : List ℕ) → k ≤ 6
+    → recordTurn s lines k body
+    ≡ wrote (acceptedLine (refusal lacksProgramRoom s (callOf k body))) (1 + bodyLength k) (after lacksProgramRoom s (callOf k body)) 0
+unfolding recordTurn recordText recordPlan
+call-turn s lines k body h = rw (ne-eqb k 9 (λ q. omega arith), le-leb k 6 h)
+
+module _ (m : List ℕ) (opened : Bool) (run : InRun m opened) (k : ℕ) (few : k ≤ 6) (body : List ℕ) (size : length body ≡ bodyLength k) where
+  pub call-line : {out left last : List ℕ} {n number : ℕ} {r : Line} (lines : ℕ) (there : Bool) → RunProvides (callOf k body) m left number
+      → Writes (acceptedLine number) out last n → there ≡ openedAfter opened k number → r ≡ lineOf (1 + length body) n there 0
+      → LinePromise (recordTurn (stateOf m) lines k body) m out left last r
+  call-line {out} {left} {last} {n} {number} lines there p w o e =
+      let c : Call = callOf k body in
+      let plan : Option Plan = after lacksProgramRoom (stateOf m) c in
+      let state : stateOf left ≡ plan = run-state c m left number (run .room) p .0 in
+      let text : acceptedLine number ≡ acceptedLine (refusal lacksProgramRoom (stateOf m) c) = ap acceptedLine (p .number-is) in
+      let flag : soundOf left ≡ there =
+      sound-some left
+      ∙ (ap isSome state
+      ∙ (after-some (stateOf m) k body few
+      ∙ (ap₂ (λ (b : Bool) (j : ℕ). openedAfter b k j) (sym (sound-some m) ∙ run .state) (sym (p .number-is)) ∙ sym o))) in
+      rw (call-turn (stateOf m) lines k body few, e)
+      (record {
+        turn-is =
+            ap (λ (x : List ℕ). wrote x (1 + length body) (stateOf left) 0) (front-is w ∙ text)
+            ∙ ap₂ (λ (j : ℕ) (q : Option Plan). wrote (acceptedLine (refusal lacksProgramRoom (stateOf m) c)) (1 + j) q 0) size state;
+        output-is = w .buffer-is ∙ ap (λ (x : List ℕ). writtenOver x out) text;
+        count-is = w .count-is ∙ ap length text;
+        inside = w .inside;
+        memory-is = p .memory-is;
+        opened-is = flag;
+      })
+
+-- A RECORD THAT READS: the plan stays
+
+pub kept-line : {t : Turn} {m out last : List ℕ} {run : Run} {r : Line} → soundOf m ≡ run .opened → ReadPromise t m run out last r → LinePromise t m out m last r
+kept-line {t} {m} {out} {last} {run} {r} s p =
+    record {
+      turn-is = p .turn-is;
+      output-is = p .output-is;
+      count-is = p .count-is;
+      inside = p .inside;
+      memory-is = sym (memory-kept m) ∙ ap (λ (x : Turn). memoryOf (planAfter x (stateOf m)) m) (p .turn-is);
+      opened-is = s ∙ sym (p .opened-is);
+    }

@@ -1,0 +1,271 @@
+-- For callers of steps: a run of them writes the meaning's text of the whole file; what a step takes and leaves is within bounds; and when it must go on.
+use Prim.Native.Nat.{ℕ, zero, suc, _+_, _-_, _≤_, _<_}
+use mathlib.Core.Path.{_≡_, refl, ap, sym, subst, _∙_}
+use mathlib.Core.Logic.{_⊎_, inl, inr}
+use mathlib.Core.Bool.{Bool, true, false}
+use mathlib.Core.List.{List, [], _∷_}
+use mathlib.Core.Option.{Option, none, some}
+use native.Mathlib.Omega.{arith}
+use lib.ListN.{length, take, drop, getElem?, length-append, length-drop, length-map}
+use lib.Dec.{ltb, leb, eqb, leb→le}
+use borrow.Author.Tests.{ltb-false, le-ltb}
+use Rattle.meaning.specs.Basics.{if_then_else_}
+use Rattle.meaning.specs.Refusals.{KIND, CUT}
+use Rattle.meaning.specs.Settings.{bytesNeeded}
+use Rattle.meaning.specs.Plan.{Plan, roomsIn}
+use Rattle.meaning.specs.Calls.{bodyLength}
+use Rattle.meaning.specs.Reads.{Listed, listed, listing}
+use Rattle.meaning.specs.Records.{noLine, recordText, recordPlan}
+use Rattle.meaning.proofs.Tests.{at-below}
+use Rattle.plan.specs.Layout.{image, planOf}
+use Rattle.plan.specs.State.{soundOf, stateOf}
+use Rattle.plan.proofs.ImageLaws.{image-size, state-some, state-none}
+use Rattle.changes.specs.Promise.{memoryOf}
+use Rattle.changes.proofs.Chains.{HoldsIf, state-holds}
+use Rattle.run.specs.Runs.{RUN-BYTES, InRun}
+use Rattle.run.proofs.RunLaws.{memory-kept}
+use Rattle.text.specs.Writes.{LONGEST}
+use Rattle.record.specs.Turns.{Turn, wrote, wants, full, ends, LIST, listedTurn, listTurn, recordTurn, turnAt, turn}
+use Rattle.record.specs.Cuts.{Steps, line, wanting, filled, over}
+use Rattle.record.specs.Promises.{turnOf, planAfter, StepPromise, Runs, next, again, emptied, last, AnyRun}
+use Rattle.record.specs.declared.Run.{Run}
+use Rattle.record.specs.declared.Line.{Line}
+use Rattle.record.specs.declared.Stepped.{Stepped}
+use Rattle.record.specs.declared.Stepped.the-variants.{Wrote, Wants, Full}
+use Rattle.record.proofs.Cuts.{any-cut}
+use Rattle.record.proofs.ReadLines.{rules-few}
+
+-- WHAT A STEP LEAVES
+
+module _ {m input output after written : List ℕ} {lines : ℕ} {ended : Bool} {r : Stepped} (p : StepPromise m lines ended input output after written r) where
+  -- the plan that the turn leaves, by the answer
+  pub left-is : after ≡ memoryOf (planAfter (turnOf r written (stateOf after)) (stateOf m)) m
+  left-is = p .memory-is ∙ ap (λ (t : Turn). memoryOf (planAfter t (stateOf m)) m) (sym (p .turn-is))
+
+-- a plan that its memory holds leaves no fewer bytes
+no-smaller : (m after : List ℕ) (s : Option Plan) → HoldsIf (length after) s → after ≡ memoryOf s m → length m ≤ length after
+no-smaller m after none h e = omega (arith, ap length e)
+no-smaller m after (some q) h e =
+    let size : length after ≡ bytesNeeded (roomsIn q) + (length m - bytesNeeded (roomsIn q)) =
+    ap length e ∙ rw (length-append (image q) (drop (bytesNeeded (roomsIn q)) m), image-size q (h .is-sound), length-drop (bytesNeeded (roomsIn q)) m) in
+    omega (arith, size)
+
+-- the same memory, where nothing is written
+module _ {m input output after written : List ℕ} {lines : ℕ} {ended : Bool} where
+  pub wants-keeps : StepPromise m lines ended input output after written Wants → after ≡ m
+  wants-keeps p = left-is p ∙ memory-kept m
+
+  pub full-keeps : StepPromise m lines ended input output after written Full → after ≡ m
+  full-keeps p = left-is p ∙ memory-kept m
+
+  -- else the memory of a run, with the flag that is handed on
+  pub next-in-run : {l : Line} → RUN-BYTES ≤ length m → StepPromise m lines ended input output after written (Wrote l) → InRun after (l .run .opened)
+  next-in-run h p =
+      let more : length m ≤ length after = no-smaller m after (stateOf after) (state-holds after) (left-is p) in
+      record { room = omega arith; state = p .opened-is }
+
+-- A RUN OF STEPS
+
+run-steps : {m left text : List ℕ} {run : Run} → Runs m run left text → Steps (stateOf m) (run .lines) left text
+run-steps (next {output = o} c p r) = line (length o) c (sym (p .turn-is)) (run-steps r)
+run-steps (again {m = m} {left = left} {output = o} {texts = texts} {run = run} c p r) =
+    wanting (length o) c (sym (p .turn-is)) (subst (λ (x : List ℕ). Steps (stateOf x) (run .lines) left texts) (wants-keeps p) (run-steps r))
+run-steps (emptied {m = m} {left = left} {output = o} {texts = texts} {run = run} c p r) =
+    filled (length o) c (sym (p .turn-is)) (subst (λ (x : List ℕ). Steps (stateOf x) (run .lines) left texts) (full-keeps p) (run-steps r))
+run-steps (last {output = o} c p) = over (length o) c (sym (p .turn-is))
+
+-- "the meaning's text of the whole file"
+pub any-run : AnyRun
+any-run m file text i r = any-cut file text (rw (state-none m (i .state)) at (run-steps r))
+
+-- WHEN A STEP MUST GO ON
+
+abbrev IsLine : Turn → Type 0
+IsLine (wrote text taken t lines) = Unit {0}
+IsLine wants = ⊥
+IsLine full = ⊥
+IsLine (ends text) = ⊥
+
+-- a whole record writes a line
+record-line : (s : Option Plan) (lines k : ℕ) (body : List ℕ) → IsLine (recordTurn s lines k body)
+unfolding recordTurn
+record-line s lines k body = go (eqb k LIST)
+  where
+    listed : (p : Plan) (o : Option Listed) → IsLine (listedTurn p lines o)
+    listed p none = tt
+    listed p (some l) = tt
+
+    list : (s : Option Plan) → IsLine (listTurn s lines)
+    list none = tt
+    list (some p) = listed p (getElem? (listing p) lines)
+
+    go : (c : Bool) → IsLine (if c then listTurn s lines else wrote (recordText s k body) (1 + bodyLength k) (recordPlan s k body) 0)
+    go true = list s
+    go false = tt
+
+abbrev NotWants : Turn → Type 0
+NotWants (wrote text taken t lines) = Unit {0}
+NotWants wants = ⊥
+NotWants full = Unit {0}
+NotWants (ends text) = Unit {0}
+
+abbrev NotFull : Turn → Type 0
+NotFull (wrote text taken t lines) = Unit {0}
+NotFull wants = Unit {0}
+NotFull full = ⊥
+NotFull (ends text) = Unit {0}
+
+line-goes : (t : Turn) → IsLine t → NotWants t × NotFull t
+line-goes (wrote text taken t lines) u = (tt, tt)
+line-goes wants u = absurd u
+line-goes full u = absurd u
+line-goes (ends text) u = absurd u
+
+body-most : (k : ℕ) → k ≤ 9 → bodyLength k ≤ 73
+unfolding bodyLength
+body-most k h = leb→le (bodyLength k) 73 (at-below (λ (j : ℕ). leb (bodyLength j) 73) 10 tt k (omega arith))
+
+module _ (s : Option Plan) (lines : ℕ) where
+  module _ (k : ℕ) (bytes : List ℕ) where
+    goes : NotWants (recordTurn s lines k (take (bodyLength k) bytes)) × NotFull (recordTurn s lines k (take (bodyLength k) bytes))
+    goes = line-goes (recordTurn s lines k (take (bodyLength k) bytes)) (record-line s lines k (take (bodyLength k) bytes))
+
+    kind-ended : NotWants (turnAt s lines true k bytes)
+    unfolding turnAt
+    kind-ended = go (ltb 9 k) (ltb (length bytes) (bodyLength k))
+      where
+        go : (a b : Bool) → NotWants (if a then ends (noLine KIND) else if b then ends (noLine CUT) else recordTurn s lines k (take (bodyLength k) bytes))
+        go true b = tt
+        go false true = tt
+        go false false = goes .0
+
+    kind-enough : (ended : Bool) → 73 ≤ length bytes → NotWants (turnAt s lines ended k bytes)
+    unfolding turnAt
+    kind-enough ended h = go (ltb 9 k) refl
+      where
+        go : (a : Bool) → ltb 9 k ≡ a
+            → NotWants (if a then ends (noLine KIND) else
+            if ltb (length bytes) (bodyLength k) then (if ended then ends (noLine CUT) else wants) else recordTurn s lines k (take (bodyLength k) bytes))
+        go true e = tt
+        go false e = rw (le-ltb (length bytes) (bodyLength k) (omega (arith, body-most k (ltb-false 9 k e)))) (goes .0)
+
+    kind-not-full : (ended : Bool) → NotFull (turnAt s lines ended k bytes)
+    unfolding turnAt
+    kind-not-full ended = go (ltb 9 k) (ltb (length bytes) (bodyLength k)) ended
+      where
+        go : (a b c : Bool)
+            → NotFull (if a then ends (noLine KIND) else if b then (if c then ends (noLine CUT) else wants) else recordTurn s lines k (take (bodyLength k) bytes))
+        go true b c = tt
+        go false true true = tt
+        go false true false = tt
+        go false false c = goes .1
+
+  -- the input has ended
+  ended-goes : (part : List ℕ) (room : ℕ) → NotWants (turn s lines true part room)
+  ended-goes [] room = tt
+  ended-goes (k ∷ bytes) room = go (ltb room LONGEST)
+    where
+      go : (b : Bool) → NotWants (if b then full else turnAt s lines true k bytes)
+      go true = tt
+      go false = kind-ended k bytes
+
+  -- there is a byte for a kind, and 73 for the longest body
+  enough-goes : (ended : Bool) (part : List ℕ) (room : ℕ) → 74 ≤ length part → NotWants (turn s lines ended part room)
+  enough-goes ended [] room h = absurd (omega (arith, h))
+  enough-goes ended (k ∷ bytes) room h = go (ltb room LONGEST)
+    where
+      go : (b : Bool) → NotWants (if b then full else turnAt s lines ended k bytes)
+      go true = tt
+      go false = kind-enough k bytes ended (omega arith)
+
+  -- there is room for a line
+  room-goes : (ended : Bool) (part : List ℕ) (room : ℕ) → LONGEST ≤ room → NotFull (turn s lines ended part room)
+  room-goes true [] room h = tt
+  room-goes false [] room h = tt
+  room-goes ended (k ∷ bytes) room h = rw (le-ltb room LONGEST h) (kind-not-full k bytes ended)
+
+module _ {m input output after written : List ℕ} {lines : ℕ} {ended : Bool} where
+  -- with the input ended and room for a line, a step neither wants more nor finds no room
+  pub ended-no-wants : ended ≡ true → StepPromise m lines ended input output after written Wants → ⊥
+  ended-no-wants e p =
+      subst NotWants (sym (p .turn-is ∙ ap (λ (b : Bool). turn (stateOf m) lines b input (length output)) e)) (ended-goes (stateOf m) lines input (length output))
+
+  pub enough-no-wants : 74 ≤ length input → StepPromise m lines ended input output after written Wants → ⊥
+  enough-no-wants h p = subst NotWants (sym (p .turn-is)) (enough-goes (stateOf m) lines ended input (length output) h)
+
+  pub room-no-full : LONGEST ≤ length output → StepPromise m lines ended input output after written Full → ⊥
+  room-no-full h p = subst NotFull (sym (p .turn-is)) (room-goes (stateOf m) lines ended input (length output) h)
+
+-- WHAT A LINE TAKES: a byte at least, or the listing goes on
+
+abbrev linesIn : Option Plan → ℕ
+linesIn none = 0
+linesIn (some p) = length (listing p)
+
+abbrev Takes : Option Plan → ℕ → ℕ → Turn → Type 0
+Takes s lines size (wrote text taken t more) = (taken ≤ size) × ((1 ≤ taken) ⊎ ((more ≡ lines + 1) × (lines < linesIn s)))
+Takes s lines size wants = Unit {0}
+Takes s lines size full = Unit {0}
+Takes s lines size (ends text) = Unit {0}
+
+inside : {A : Type 0} (xs : List A) (k : ℕ) (x : A) → getElem? xs k ≡ some x → k < length xs
+inside [] k x e = absurd (let z : _≡_ {A = ℕ} 0 1 = cc in omega arith)
+inside (y ∷ ys) zero x e = omega arith
+inside (y ∷ ys) (suc k) x e = omega (arith, inside ys k x e)
+
+list-takes : (s : Option Plan) (lines size : ℕ) → 1 ≤ size → Takes s lines size (listTurn s lines)
+list-takes none lines size h = (h, inl (omega arith))
+list-takes (some p) lines size h = go (getElem? (listing p) lines) refl
+  where
+    go : (o : Option Listed) → getElem? (listing p) lines ≡ o → Takes (some p) lines size (listedTurn p lines o)
+    go none e = (h, inl (omega arith))
+    go (some l) e = (omega arith, inr (refl, inside (listing p) lines l e))
+
+module _ (s : Option Plan) (lines : ℕ) (ended : Bool) where
+  kind-takes : (k : ℕ) (bytes : List ℕ) → Takes s lines (suc (length bytes)) (turnAt s lines ended k bytes)
+  unfolding turnAt recordTurn
+  kind-takes k bytes = go (ltb 9 k) (ltb (length bytes) (bodyLength k)) ended (eqb k LIST) refl
+    where
+      go : (a b c d : Bool) → ltb (length bytes) (bodyLength k) ≡ b
+          → Takes s lines (suc (length bytes)) (if a then ends (noLine KIND) else if b then (if c then ends (noLine CUT) else wants) else
+          if d then listTurn s lines else wrote (recordText s k (take (bodyLength k) bytes)) (1 + bodyLength k) (recordPlan s k (take (bodyLength k) bytes)) 0)
+      go true b c d e = tt
+      go false true true d e = tt
+      go false true false d e = tt
+      go false false c true e = list-takes s lines (suc (length bytes)) (omega arith)
+      go false false c false e = (omega (arith, ltb-false (length bytes) (bodyLength k) e), inl (omega arith))
+
+  turn-takes : (part : List ℕ) (room : ℕ) → Takes s lines (length part) (turn s lines ended part room)
+  turn-takes [] room = go ended
+    where
+      go : (b : Bool) → Takes s lines 0 (if b then ends [] else wants)
+      go true = tt
+      go false = tt
+  turn-takes (k ∷ bytes) room = go (ltb room LONGEST)
+    where
+      go : (b : Bool) → Takes s lines (suc (length bytes)) (if b then full else turnAt s lines ended k bytes)
+      go true = tt
+      go false = kind-takes k bytes
+
+lines-most : (m : List ℕ) → linesIn (stateOf m) ≤ 4096
+unfolding listing
+lines-most m = go (soundOf m) refl
+  where
+    go : (b : Bool) → soundOf m ≡ b → linesIn (stateOf m) ≤ 4096
+    go true e = rw (state-some m e, length-map (planOf m .rules) listed) (rules-few m e)
+    go false e = rw (state-none m e) (omega arith)
+
+module _ {m input output after written : List ℕ} {lines : ℕ} {ended : Bool} {l : Line} (p : StepPromise m lines ended input output after written (Wrote l)) where
+  takes : Takes (stateOf m) lines (length input) (turnOf (Wrote l) written (stateOf after))
+  takes = subst (Takes (stateOf m) lines (length input)) (sym (p .turn-is)) (turn-takes (stateOf m) lines ended input (length output))
+
+  pub taken-inside : l .taken ≤ length input
+  taken-inside = takes .0
+
+  -- so a run of steps over a file comes to its end
+  pub goes-on : (1 ≤ l .taken) ⊎ ((l .run .lines ≡ lines + 1) × (lines < 4096))
+  goes-on = go (takes .1)
+    where
+      go : (1 ≤ l .taken) ⊎ ((l .run .lines ≡ lines + 1) × (lines < linesIn (stateOf m))) → (1 ≤ l .taken) ⊎ ((l .run .lines ≡ lines + 1) × (lines < 4096))
+      go (inl h) = inl h
+      go (inr h) = inr (h .0, omega (arith, h .1, lines-most m))

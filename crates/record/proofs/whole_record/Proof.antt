@@ -1,0 +1,46 @@
+-- A call, or a record that reads.
+use borrow.Author.Needs.{needs}
+use Rattle.plan.specs.State.{stateOf}
+use Rattle.record.specs.Turns.{recordTurn}
+use Rattle.record.proofs.CallLines.{kept-line}
+use Rattle.record.proofs.whole_record.Statement.{statement}
+use Rattle.record.proofs.whole_record.Tie as tie
+
+call-record-requires : tie.Need-call-record-requires
+call-record-requires c κs = search needs
+
+same-length : tie.Need-same-length
+same-length c = search needs
+
+same-length-2 : tie.Need-same-length-2
+same-length-2 c = search needs
+
+returns : tie.Need-returns
+returns c = search needs
+
+read-record-requires : tie.Need-read-record-requires
+read-record-requires c κs = search needs
+
+same-length-3 : tie.Need-same-length-3
+same-length-3 c = search needs
+
+same-length-4 : tie.Need-same-length-4
+same-length-4 c = search needs
+
+returns-2 : tie.Need-returns-2
+returns-2 c =
+    let b = c .before .before .before .before .before .before .before .before .before in
+    kept-line {t = recordTurn (stateOf (b .args .plan .now)) (b .args .run .lines) (b .args .kind) (b .args .body .now)} (b .pre .0 .state) (c .before .before .read-record .ensures)
+
+pub whole-record-spec : {M : Type 1} → statement M
+whole-record-spec =
+    tie.close
+    (tie.spec
+    call-record-requires
+    same-length
+    same-length-2
+    returns
+    read-record-requires
+    same-length-3
+    same-length-4
+    returns-2)

@@ -1,0 +1,129 @@
+-- What a step promises, over the memory that holds the run's plan.
+use Prim.Native.Nat.{ℕ, _≤_, _<_}
+use mathlib.Core.Path.{_≡_}
+use mathlib.Core.Bool.{Bool, false, _||_}
+use mathlib.Core.List.{List, [], _++_}
+use mathlib.Core.Option.{Option}
+use lib.ListN.{length, take, drop}
+use Rattle.meaning.specs.Basics.{if_then_else_, isZero, writtenOver}
+use Rattle.meaning.specs.Refusals.{CUT}
+use Rattle.meaning.specs.Plan.{Plan}
+use Rattle.meaning.specs.Records.{noLine, fileText}
+use Rattle.plan.specs.State.{soundOf, stateOf}
+use Rattle.changes.specs.Promise.{memoryOf}
+use Rattle.run.specs.Runs.{RUN-BYTES, InRun}
+use Rattle.record.specs.Turns.{Turn, wrote, wants, full, ends, turn}
+use Rattle.record.specs.Cuts.{Cut}
+use Rattle.record.specs.declared.Run.{Run}
+use Rattle.record.specs.declared.Line.{Line}
+use Rattle.record.specs.declared.Stepped.{Stepped}
+use Rattle.record.specs.declared.Stepped.the-variants.{Wrote, Wants, Full, Ends}
+use Rattle.record.specs.declared.AnyStep.{AnyStep}
+use Rattle.record.specs.declared.AnyStep.the-variants.{Small, Took}
+
+-- a line, and what it leaves
+abbrev pub lineOf : ℕ → ℕ → Bool → ℕ → Line
+lineOf taken written opened lines = record { taken = taken; written = written; run = record { opened = opened; lines = lines } }
+
+-- what a step's answer says: the text stands at the front of the output, and the plan in the memory
+abbrev pub turnOf : Stepped → List ℕ → Option Plan → Turn
+turnOf (Wrote l) output s = wrote (take (l .written) output) (l .taken) s (l .run .lines)
+turnOf Wants output s = wants
+turnOf Full output s = full
+turnOf (Ends n) output s = ends (take n output)
+
+-- how many bytes an answer says are written
+abbrev pub writtenBy : Stepped → ℕ
+writtenBy (Wrote l) = l .written
+writtenBy Wants = 0
+writtenBy Full = 0
+writtenBy (Ends n) = n
+
+-- what a turn writes, and the plan that it leaves
+abbrev pub textOf : Turn → List ℕ
+textOf (wrote text taken s lines) = text
+textOf wants = []
+textOf full = []
+textOf (ends text) = text
+
+abbrev pub planAfter : Turn → Option Plan → Option Plan
+planAfter (wrote text taken t lines) s = t
+planAfter wants s = s
+planAfter full s = s
+planAfter (ends text) s = s
+
+-- the flag that an answer hands on is right
+abbrev pub OpenedRight : Stepped → List ℕ → Type 0
+OpenedRight (Wrote l) m = soundOf m ≡ l .run .opened
+OpenedRight Wants m = Unit {0}
+OpenedRight Full m = Unit {0}
+OpenedRight (Ends n) m = Unit {0}
+
+-- THE PROMISE OF A LINE that leaves the plan as it was: the turn's text, and what the line hands on
+pub record ReadPromise (t : Turn) (m : List ℕ) (run : Run) (output left : List ℕ) (r : Line) : Type 0 where
+  pub turn-is : turnOf (Wrote r) left (stateOf m) ≡ t
+  pub output-is : left ≡ writtenOver (textOf t) output
+  pub count-is : r .written ≡ length (textOf t)
+  pub inside : r .written ≤ length output
+  pub opened-is : r .run .opened ≡ run .opened
+
+-- and of any line: the plan's memory as the turn leaves the plan
+pub record LinePromise (t : Turn) (m output after left : List ℕ) (r : Line) : Type 0 where
+  pub turn-is : turnOf (Wrote r) left (stateOf after) ≡ t
+  pub output-is : left ≡ writtenOver (textOf t) output
+  pub count-is : r .written ≡ length (textOf t)
+  pub inside : r .written ≤ length output
+  pub memory-is : after ≡ memoryOf (planAfter t (stateOf m)) m
+  pub opened-is : soundOf after ≡ r .run .opened
+
+-- whether a plan is there after a call of a kind, answered with a number
+abbrev pub openedAfter : Bool → ℕ → ℕ → Bool
+openedAfter opened k number = if isZero number then opened || isZero k else opened
+
+-- A BODY THAT IS CUT: its line where the input has ended
+abbrev pub cutAnswer : Bool → ℕ → Stepped
+cutAnswer ended n = if ended then Ends n else Wants
+
+abbrev pub cutText : Bool → List ℕ
+cutText ended = if ended then noLine CUT else []
+
+pub record CutPromise (ended : Bool) (output left : List ℕ) (r : Stepped) : Type 0 where
+  pub answer-is : r ≡ cutAnswer ended (length (noLine CUT))
+  pub output-is : left ≡ writtenOver (cutText ended) output
+  pub inside : length (cutText ended) ≤ length output
+
+-- THE PROMISE OF A STEP: its answer is the turn's, with the text at the front of the output, the bytes behind it as they were, and the plan's memory as the
+-- turn leaves the plan
+pub record StepPromise (m : List ℕ) (lines : ℕ) (ended : Bool) (input output after left : List ℕ) (r : Stepped) : Type 0 where
+  pub turn-is : turnOf r left (stateOf after) ≡ turn (stateOf m) lines ended input (length output)
+  pub output-is : left ≡ writtenOver (textOf (turn (stateOf m) lines ended input (length output))) output
+  pub count-is : writtenBy r ≡ length (textOf (turn (stateOf m) lines ended input (length output)))
+  pub inside : writtenBy r ≤ length output
+  pub memory-is : after ≡ memoryOf (planAfter (turn (stateOf m) lines ended input (length output)) (stateOf m)) m
+  pub opened-is : OpenedRight r after
+
+-- OF A STEP OVER ANY MEMORY: one that is too small for a run's plan has its own answer, and nothing is changed
+abbrev pub AnyStepPromise : List ℕ → ℕ → Bool → List ℕ → List ℕ → List ℕ → List ℕ → AnyStep → Type 0
+AnyStepPromise m lines ended input output after left Small = (length m < RUN-BYTES) × (after ≡ m) × (left ≡ output)
+AnyStepPromise m lines ended input output after left (Took r) = (RUN-BYTES ≤ length m) × StepPromise m lines ended input output after left r
+
+-- RUNS OF STEPS on one memory, each getting it as the last one left it, with a part of what is left of the input and an output of its own: the memory before,
+-- the state handed on, what is left of the input, and the joined text
+pub data Runs : List ℕ → Run → List ℕ → List ℕ → Type 0 where
+  next : {m after left part rest output written texts : List ℕ} {run : Run} {ended : Bool} {l : Line} → Cut left part rest ended
+      → StepPromise m (run .lines) ended part output after written (Wrote l) → Runs after (l .run) (drop (l .taken) left) texts
+      → Runs m run left (take (l .written) written ++ texts)
+  again : {m after left part rest output written texts : List ℕ} {run : Run} {ended : Bool} → Cut left part rest ended
+      → StepPromise m (run .lines) ended part output after written Wants → Runs after run left texts → Runs m run left texts
+  emptied : {m after left part rest output written texts : List ℕ} {run : Run} {ended : Bool} → Cut left part rest ended
+      → StepPromise m (run .lines) ended part output after written Full → Runs after run left texts → Runs m run left texts
+  last : {m after left part rest output written : List ℕ} {run : Run} {ended : Bool} {n : ℕ} → Cut left part rest ended
+      → StepPromise m (run .lines) ended part output after written (Ends n) → Runs m run left (take n written)
+
+-- the state that a run begins with
+abbrev pub start : Run
+start = record { opened = false; lines = 0 }
+
+-- a run that begins with a memory of its size that holds no sound plan writes "the meaning's text of the whole file"
+abbrev pub AnyRun : Type 0
+AnyRun = (m file text : List ℕ) → InRun m false → Runs m start file text → text ≡ fileText file

@@ -1,0 +1,219 @@
+-- How opening and provisioning in a run meet their promise: a call over a plan does not look at the room; an opening within 64 sets and 512
+-- rules has the bytes that it needs; any other lacks room in a run just as in a memory of 0 bytes.
+use Prim.Native.Nat.{ℕ, _≤_, _<_}
+use mathlib.Core.Path.{_≡_, refl, ap, sym, _∙_}
+use mathlib.Core.Logic.{_≢_}
+use mathlib.Core.Bool.{Bool, true, false, _&&_, _||_, not}
+use mathlib.Core.List.{List}
+use mathlib.Core.Option.{Option, none}
+use native.Mathlib.Omega.{arith}
+use lib.ListN.{length}
+use lib.Seq.{getD-take, take-all}
+use lib.Dec.{T, ltb, eqb, lit<, eqb→eq}
+use borrow.Author.Tests.{lt-ltb, le-ltb, ltb-false, ne-eqb, eqb-true, eqb-false}
+use Rattle.meaning.specs.Basics.{if_then_else_, isZero, word}
+use Rattle.meaning.specs.Refusals.{PLAN, firstOf}
+use Rattle.meaning.specs.Settings.{roomsOf, bytesNeeded}
+use Rattle.meaning.specs.Plan.{Plan}
+use Rattle.meaning.specs.Calls.{Operation, openPlan, addSet, replaceSet, removeSet, addRule, changeRule, removeRule, Call, kindOf, bodyLength, bodyOf, openedRooms, openingLines, lacksBytes, linesOf, refusal, made, isAccepted, after}
+use Rattle.meaning.specs.Records.{lacksProgramRoom, operationOf, callOf}
+use Rattle.meaning.proofs.Tests.{true-is, is-false, false-is, and-left, and-right, or-left-false, or-right-false, or-other, passed-at, at-below}
+use Rattle.meaning.proofs.Soundness.{accepted-passed}
+use Rattle.plan.specs.Layout.{planOf}
+use Rattle.plan.specs.State.{soundOf, stateOf}
+use Rattle.plan.proofs.ImageLaws.{sound-memory, state-some, state-none}
+use Rattle.changes.specs.Promise.{memoryOf, memoryAfter, Provides, calls}
+use Rattle.changes.proofs.PromiseLaws.{isOpening, unsound}
+use Rattle.changes.proofs.Chains.{after-call}
+use Rattle.run.specs.Runs.{RUN-BYTES, RunProvides}
+
+-- A CALL THAT IS REFUSED
+
+-- a memory is the image of its plan, if it has one, and the rest
+pub memory-kept : (m : List ℕ) → memoryOf (stateOf m) m ≡ m
+unfolding planOf
+memory-kept m = go (soundOf m) refl
+  where
+    go : (b : Bool) → soundOf m ≡ b → memoryOf (stateOf m) m ≡ m
+    go true e = rw (state-some m e) (sym (sound-memory m (true-is (soundOf m) e) .bytes))
+    go false e = rw (state-none m e)
+
+module _ (c : Call) (m : List ℕ) where
+  refused-after : refusal lacksProgramRoom (stateOf m) c ≢ 0 → after lacksProgramRoom (stateOf m) c ≡ stateOf m
+  unfolding after
+  refused-after h = rw (ne-eqb (refusal lacksProgramRoom (stateOf m) c) 0 h)
+
+  -- so what is left of the memory is the memory
+  refused-memory : refusal lacksProgramRoom (stateOf m) c ≢ 0 → memoryOf (after lacksProgramRoom (stateOf m) c) m ≡ m
+  refused-memory h = ap (λ (s : Option Plan). memoryOf s m) (refused-after h) ∙ memory-kept m
+
+  pub run-refused : (n : ℕ) → n ≡ refusal lacksProgramRoom (stateOf m) c → n ≢ 0 → RunProvides c m m n
+  run-refused n e h = record { number-is = e; memory-is = sym (refused-memory (λ q. h (e ∙ q))) }
+
+  -- A CALL WITH THE SAME NUMBER, BY THE MEMORY'S BYTES AND BY THE ROOM OF A RUN
+
+  abbrev SameNumber : Type 0
+  SameNumber = refusal (lacksBytes (length m)) (stateOf m) c ≡ refusal lacksProgramRoom (stateOf m) c
+
+  same-after : SameNumber → after (lacksBytes (length m)) (stateOf m) c ≡ after lacksProgramRoom (stateOf m) c
+  unfolding after
+  same-after e = ap (λ (n : ℕ). if isZero n then made (c .operation) (stateOf m) (bodyOf c) else stateOf m) e
+
+  bytes-memory : memoryAfter c m ≡ memoryOf (after (lacksBytes (length m)) (stateOf m) c) m
+  unfolding memoryAfter after
+  bytes-memory = go (isAccepted (lacksBytes (length m)) (stateOf m) c)
+    where
+      go : (t : Bool) → (if t then memoryOf (made (c .operation) (stateOf m) (bodyOf c)) m else m)
+          ≡ memoryOf (if t then made (c .operation) (stateOf m) (bodyOf c) else stateOf m) m
+      go true = refl
+      go false = sym (memory-kept m)
+
+  same-memory : SameNumber → memoryAfter c m ≡ memoryOf (after lacksProgramRoom (stateOf m) c) m
+  same-memory e = bytes-memory ∙ ap (λ (s : Option Plan). memoryOf s m) (same-after e)
+
+  provided : (left : List ℕ) (n : ℕ) → SameNumber → Provides c m left n → RunProvides c m left n
+  provided left n e p = record { number-is = p .number-is ∙ e; memory-is = p .memory-is ∙ same-memory e }
+
+-- WHAT THE CHECKS OF A CALL ASK ABOUT THE ROOM: an opening alone, and of the rooms alone
+
+same-lines : (o : Operation) (lacks other : List ℕ → Bool) (s : Option Plan) (b : List ℕ) → (isOpening o ≡ true → lacks (openedRooms b) ≡ other (openedRooms b))
+    → linesOf o lacks s b ≡ linesOf o other s b
+unfolding openingLines
+same-lines openPlan lacks other s b h = rw (h refl)
+same-lines addSet lacks other s b h = refl
+same-lines replaceSet lacks other s b h = refl
+same-lines removeSet lacks other s b h = refl
+same-lines addRule lacks other s b h = refl
+same-lines changeRule lacks other s b h = refl
+same-lines removeRule lacks other s b h = refl
+
+same-number : (c : Call) (lacks other : List ℕ → Bool) (s : Option Plan) → (isOpening (c .operation) ≡ true → lacks (openedRooms (bodyOf c)) ≡ other (openedRooms (bodyOf c)))
+    → refusal lacks s c ≡ refusal other s c
+unfolding refusal
+same-number c lacks other s h = rw (same-lines (c .operation) lacks other s (bodyOf c) h)
+
+not-both : {A : Type 0} {t : Bool} → t ≡ false → t ≡ true → A
+not-both e h = absurd (let z : _≡_ {A = ℕ} 0 1 = cc in omega arith)
+
+-- where an opening is accepted, it does not lack room
+opened-room : (o : Operation) (lacks : List ℕ → Bool) (s : Option Plan) (b : List ℕ) → firstOf (linesOf o lacks s b) ≡ 0 → isOpening o ≡ true → lacks (openedRooms b) ≡ false
+unfolding openingLines
+opened-room openPlan lacks s b e h = is-false (lacks (openedRooms b)) (passed-at 1 (openingLines lacks b) tt e)
+opened-room addSet lacks s b e h = not-both refl h
+opened-room replaceSet lacks s b e h = not-both refl h
+opened-room removeSet lacks s b e h = not-both refl h
+opened-room addRule lacks s b e h = not-both refl h
+opened-room changeRule lacks s b e h = not-both refl h
+opened-room removeRule lacks s b e h = not-both refl h
+
+-- the memory of a run has the bytes for every room of it
+run-room : (size : ℕ) (rooms : List ℕ) → RUN-BYTES ≤ size → lacksProgramRoom rooms ≡ false → lacksBytes size rooms ≡ false
+unfolding lacksProgramRoom bytesNeeded
+run-room size rooms h e =
+    let sets : ℕ = (roomsOf rooms) .sets in
+    let rules : ℕ = (roomsOf rooms) .rules in
+    let t : T (not (ltb 64 sets || ltb 512 rules)) = false-is (ltb 64 sets || ltb 512 rules) e in
+    let few : sets ≤ 64 = ltb-false 64 sets (is-false (ltb 64 sets) (or-left-false (ltb 64 sets) (ltb 512 rules) t)) in
+    let fewer : rules ≤ 512 = ltb-false 512 rules (is-false (ltb 512 rules) (or-right-false (ltb 64 sets) (ltb 512 rules) t)) in
+    le-ltb size (bytesNeeded (roomsOf rooms)) (omega arith)
+
+-- a plan needs bytes
+no-room : (rooms : List ℕ) → lacksBytes 0 rooms ≡ true
+unfolding bytesNeeded
+no-room rooms = lt-ltb 0 (bytesNeeded (roomsOf rooms)) (omega arith)
+
+-- CALLS OVER A PLAN
+
+pub changed : (o : Operation) (m b left : List ℕ) (n : ℕ) → isOpening o ≡ false → Provides (calls o b) m left n → RunProvides (calls o b) m left n
+changed o m b left n e p =
+    provided (calls o b) m left n (same-number (calls o b) (lacksBytes (length m)) lacksProgramRoom (stateOf m) (not-both e)) p
+
+-- kinds 1 to 6 are such calls
+abbrev isChange : ℕ → Bool
+isChange k = not (isOpening (operationOf k)) && eqb (kindOf (operationOf k)) k
+
+change-kinds : (k : ℕ) → 1 ≤ k → k ≤ 6 → T (isChange k)
+unfolding operationOf
+change-kinds k l h = or-other (isZero k) (isChange k) (at-below (λ (j : ℕ). isZero j || isChange j) 7 tt k (omega arith)) (false-is (isZero k) (ne-eqb k 0 (λ e. omega arith)))
+
+-- the kind that is none of the others
+pub last-kind : (k : ℕ) → 1 ≤ k → k ≤ 6 → k ≢ 1 → k ≢ 2 → k ≢ 3 → k ≢ 4 → k ≢ 5 → k ≡ 6
+last-kind k l h n1 n2 n3 n4 n5 = let least : 6 ≤ k = omega arith in omega arith
+
+-- over no plan each of them is refused
+pub unopened : (k : ℕ) (m b : List ℕ) → 1 ≤ k → k ≤ 6 → length b ≡ bodyLength k → soundOf m ≡ false → RunProvides (callOf k b) m m PLAN
+unopened k m b l h size s =
+    let o : Operation = operationOf k in
+    let t = change-kinds k l h in
+    let e : isOpening o ≡ false = is-false (isOpening o) (and-left (not (isOpening o)) (eqb (kindOf o) k) t) in
+    let kind : kindOf o ≡ k = eqb→eq (kindOf o) k (and-right (not (isOpening o)) (eqb (kindOf o) k) t) in
+    changed o m b m PLAN e (unsound o m b e (rw (kind, size) (omega arith)) s)
+
+-- OPENING: `sets` and `rules` are the rooms that the body asks for
+
+asked-room : (b : List ℕ) → lacksProgramRoom (openedRooms b) ≡ (ltb 64 (word b 0) || ltb 512 (word b 2))
+unfolding lacksProgramRoom roomsOf
+asked-room b = rw (getD-take 4 b 0 0 (lit< tt), getD-take 4 b 1 0 (lit< tt), getD-take 4 b 2 0 (lit< tt), getD-take 4 b 3 0 (lit< tt))
+
+pub over-sets : (b : List ℕ) (sets : ℕ) → sets ≡ word b 0 → 64 < sets → lacksProgramRoom (openedRooms b) ≡ true
+over-sets b sets e h = asked-room b ∙ rw (lt-ltb 64 (word b 0) (omega arith))
+
+pub over-rules : (b : List ℕ) (rules : ℕ) → rules ≡ word b 2 → 512 < rules → lacksProgramRoom (openedRooms b) ≡ true
+over-rules b rules e h = asked-room b ∙ (rw (lt-ltb 512 (word b 2) (omega arith)) (go (ltb 64 (word b 0))))
+  where
+    go : (t : Bool) → (t || true) ≡ true
+    go true = refl
+    go false = refl
+
+pub within-both : (b : List ℕ) (sets rules : ℕ) → sets ≡ word b 0 → rules ≡ word b 2 → sets ≤ 64 → rules ≤ 512 → lacksProgramRoom (openedRooms b) ≡ false
+within-both b sets rules e f h k = asked-room b ∙ rw (le-ltb 64 (word b 0) (omega arith), le-ltb 512 (word b 2) (omega arith))
+
+module _ (m b : List ℕ) (size : length b ≡ 40) where
+  whole-body : bodyOf (calls openPlan b) ≡ b
+  unfolding bodyLength
+  whole-body = take-all 40 b (omega arith)
+
+  opening-number : refusal lacksProgramRoom (stateOf m) (calls openPlan b) ≡ firstOf (openingLines lacksProgramRoom b)
+  unfolding refusal bodyLength
+  opening-number = rw (le-ltb (length b) 40 (omega arith), whole-body)
+
+  -- over the limits: "more is ROOM there"
+  pub opened-over : (n : ℕ) → n ≡ firstOf (openingLines (lacksBytes 0) b) → lacksProgramRoom (openedRooms b) ≡ true → RunProvides (calls openPlan b) m m n
+  opened-over n e h =
+      let same : firstOf (openingLines (lacksBytes 0) b) ≡ firstOf (openingLines lacksProgramRoom b) =
+      ap firstOf (same-lines openPlan (lacksBytes 0) lacksProgramRoom none b (λ q. no-room (openedRooms b) ∙ sym h)) in
+      run-refused (calls openPlan b) m n (e ∙ (same ∙ sym opening-number))
+      (λ q. not-both (opened-room openPlan lacksProgramRoom none b (sym (e ∙ same) ∙ q) refl) h)
+
+  -- within them
+  pub opened-within : (left : List ℕ) (n : ℕ) → RUN-BYTES ≤ length m → lacksProgramRoom (openedRooms b) ≡ false → Provides (calls openPlan b) m left n
+      → RunProvides (calls openPlan b) m left n
+  opened-within left n h e p =
+      provided (calls openPlan b) m left n
+      (same-number (calls openPlan b) (lacksBytes (length m)) lacksProgramRoom (stateOf m)
+      (λ q. rw whole-body (run-room (length m) (openedRooms b) h e ∙ sym e)))
+      p
+
+-- WHAT ANY CALL OF A RUN LEAVES: the state that the definition says, and as many bytes
+
+-- a call that a run accepts has the bytes that it needs
+accepted-same : (c : Call) (m : List ℕ) → RUN-BYTES ≤ length m → refusal lacksProgramRoom (stateOf m) c ≡ 0 → SameNumber c m
+accepted-same c m h e =
+    same-number c (lacksBytes (length m)) lacksProgramRoom (stateOf m) (λ q. let r = room q in run-room (length m) (openedRooms (bodyOf c)) h r ∙ sym r)
+  where
+    room : isOpening (c .operation) ≡ true → lacksProgramRoom (openedRooms (bodyOf c)) ≡ false
+    room = opened-room (c .operation) lacksProgramRoom (stateOf m) (bodyOf c) (accepted-passed lacksProgramRoom (stateOf m) c e .checks)
+
+pub run-state : (c : Call) (m left : List ℕ) (n : ℕ) → RUN-BYTES ≤ length m → RunProvides c m left n
+    → (stateOf left ≡ after lacksProgramRoom (stateOf m) c) × (length left ≡ length m)
+run-state c m left n h p = go (eqb (refusal lacksProgramRoom (stateOf m) c) 0) refl
+  where
+    go : (t : Bool) → eqb (refusal lacksProgramRoom (stateOf m) c) 0 ≡ t → (stateOf left ≡ after lacksProgramRoom (stateOf m) c) × (length left ≡ length m)
+    go true e =
+        let same = accepted-same c m h (eqb-true (refusal lacksProgramRoom (stateOf m) c) 0 e) in
+        let memory : left ≡ memoryAfter c m = p .memory-is ∙ sym (same-memory c m same) in
+        (ap stateOf memory ∙ (after-call c m .state ∙ same-after c m same), ap length memory ∙ after-call c m .size)
+    go false e =
+        let refused = eqb-false (refusal lacksProgramRoom (stateOf m) c) 0 e in
+        let memory : left ≡ m = p .memory-is ∙ refused-memory c m refused in
+        (ap stateOf memory ∙ sym (refused-after c m refused), ap length memory)

@@ -1,0 +1,33 @@
+-- A memory that was cleared holds no plan.
+use Prim.Native.Nat.{ℕ, _+_, _-_, _≤_}
+use mathlib.Core.Path.{_≡_, refl, ap, sym, _∙_}
+use mathlib.Core.Bool.{false}
+use mathlib.Core.List.{List}
+use native.Mathlib.Omega.{arith}
+use lib.ListN.{length, take, drop}
+use Rattle.meaning.specs.Basics.{part}
+use Rattle.meaning.specs.Settings.{roomsInRange}
+use Rattle.meaning.specs.Plan.{Plan, soundRules, sound}
+use Rattle.meaning.proofs.Tests.{all-false}
+use Rattle.buffer.specs.Zeros.{zeros}
+use Rattle.buffer.proofs.ZeroLaws.{length-zeros, take-zeros, drop-zeros}
+use Rattle.plan.specs.Layout.{planOf}
+use Rattle.plan.specs.State.{soundTests, soundOf}
+use Rattle.run.specs.Runs.{RUN-BYTES, InRun}
+
+rooms-zero : (n : ℕ) → RUN-BYTES ≤ n → part 8 4 (zeros n) ≡ zeros 4
+rooms-zero n h =
+    let k : ℕ = n - 12 in
+    let e : n ≡ 8 + (4 + k) = omega arith in
+    ap (λ (x : ℕ). part 8 4 (zeros x)) e ∙ (ap (take 4) (drop-zeros 8 (4 + k)) ∙ take-zeros 4 k)
+
+none-in-range : roomsInRange (zeros 4) ≡ false
+unfolding zeros roomsInRange
+none-in-range = refl
+
+pub cleared : (n : ℕ) → RUN-BYTES ≤ n → InRun (zeros n) false
+unfolding planOf soundOf sound
+cleared n h =
+    let rooms : roomsInRange (planOf (zeros n) .rooms) ≡ false = ap roomsInRange (rooms-zero n h) ∙ none-in-range in
+    let unsound : sound (planOf (zeros n)) ≡ false = all-false 1 (soundRules (planOf (zeros n))) rooms in
+    record { room = rw (length-zeros n) h; state = all-false 2 (soundTests (zeros n)) unsound }

@@ -1,0 +1,4 @@
+pub mod StepFacts
+pub mod Pumping
+pub mod Beginning
+pub mod Draining

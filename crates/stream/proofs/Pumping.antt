@@ -1,0 +1,274 @@
+-- How the steps over the input at hand go on: every run of steps over what is left makes one over all of it.
+use Prim.Native.Nat.{ℕ, _+_, _-_, _≤_, _<_, zero-le}
+use mathlib.Core.Path.{_≡_, refl, ap, ap₂, sym, subst, _∙_}
+use mathlib.Core.Bool.{Bool, true, false}
+use mathlib.Core.List.{List, [], _∷_, _++_, append-assoc, append-nil}
+use native.Mathlib.Omega.{arith}
+use lib.ListN.{length, take, drop, length-append, length-drop, drop-of-length-le, take-append-drop}
+use lib.Dec.{ltb}
+use borrow.Author.Tests.{ltb-true, ltb-false}
+use lib.Seq.{take-all, take-at, drop-at, take-add, drop-drop, drop-append-le, length-take-le}
+use borrow.Rule.Slice.PartMut.{midOf, putMid, postOf, post-is}
+use Rattle.meaning.specs.Basics.{writtenOver}
+use Rattle.plan.specs.State.{stateOf}
+use Rattle.text.specs.Writes.{LONGEST}
+use Rattle.run.specs.Runs.{RUN-BYTES, InRun}
+use Rattle.run.proofs.RunLaws.{memory-kept}
+use Rattle.record.specs.Turns.{Turn, turn}
+use Rattle.record.specs.Cuts.{Cut}
+use Rattle.record.specs.Promises.{turnOf, writtenBy, textOf, planAfter, StepPromise, Runs, next, last}
+use Rattle.record.specs.declared.Run.{Run}
+use Rattle.record.specs.declared.Line.{Line}
+use Rattle.record.specs.declared.Stepped.{Stepped}
+use Rattle.record.specs.declared.Stepped.the-variants.{Wrote, Wants, Full, Ends}
+use Rattle.record.proofs.Steps.{left-is, wants-keeps, full-keeps, next-in-run, ended-no-wants, enough-no-wants, room-no-full, taken-inside}
+use Rattle.stream.proofs.StepFacts.{writes-some, step-size}
+use Rattle.stream.specs.Pumps.{pumpedAs, PumpPromise}
+use Rattle.stream.specs.declared.Pumped.{Pumped}
+
+-- THE LENT PARTS
+
+input-left : (input : List ℕ) (at : ℕ) → take (length input - at) (drop at input) ≡ drop at input
+input-left input at = take-all (length input - at) (drop at input) (rw (length-drop at input) (omega arith))
+
+-- the output with the part from `end` on given back
+given-back : (out lent : List ℕ) (end : ℕ) → end ≤ length out → putMid end (length out - end) out lent ≡ take end out ++ lent
+given-back out lent end h =
+    let none-behind : postOf end (length out - end) out ≡ [] = let e : length out ≤ length out = omega arith in post-is end (length out) out h ∙ drop-of-length-le out e in
+    ap (λ (l : List ℕ). take end out ++ l) (ap (λ (l : List ℕ). lent ++ l) none-behind ∙ append-nil lent)
+
+-- what was written, and the bytes behind it
+module _ (text part lent : List ℕ) (is : lent ≡ writtenOver text part) (fits : length text ≤ length part) where
+  lent-long : length lent ≡ length part
+  lent-long = ap length is ∙ rw (length-append text (drop (length text) part), length-drop (length text) part) (omega arith)
+
+  lent-behind : drop (length text) lent ≡ drop (length text) part
+  lent-behind = ap (drop (length text)) is ∙ drop-at text (drop (length text) part) (length text) refl
+
+module _ (out lent : List ℕ) (end : ℕ) (h : end ≤ length out) where
+  front-long : length (take end out) ≡ end
+  front-long = length-take-le end out h
+
+  -- the front of the output grows by what was written
+  front-grows : (w : ℕ) → take (end + w) (take end out ++ lent) ≡ take end out ++ take w lent
+  front-grows w =
+      take-add end w (take end out ++ lent)
+      ∙ ap₂ (λ (a b : List ℕ). a ++ take w b) (take-at (take end out) lent end front-long) (drop-at (take end out) lent end front-long)
+
+  behind-is : (w : ℕ) → drop (end + w) (take end out ++ lent) ≡ drop w lent
+  behind-is w = sym (drop-drop w end (take end out ++ lent)) ∙ ap (drop w) (drop-at (take end out) lent end front-long)
+
+not-ended : (b : Bool) → (b ≡ true → ⊥) → b ≡ false
+not-ended true f = absurd (f refl)
+not-ended false f = refl
+
+-- THE LOOP
+
+pub record Going (m : List ℕ) (run : Run) (ended : Bool) (input out : List ℕ) (now : List ℕ) (so : Run) (at end : ℕ) (left : List ℕ) : Type 0 where
+  pub in-run : InRun now (so .opened)
+  pub size : length now ≡ length m
+  pub inside : at ≤ length input
+  pub room : end ≤ length out
+  pub long : length left ≡ length out
+  pub behind : drop end left ≡ drop end out
+  pub extends : (rest texts : List ℕ) → (ended ≡ true → rest ≡ []) → Runs now so (drop at (input ++ rest)) texts → Runs m run (input ++ rest) (take end left ++ texts)
+
+pub going-start : (m : List ℕ) (run : Run) (ended : Bool) (input out : List ℕ) → InRun m (run .opened) → Going m run ended input out m run 0 0 out
+going-start m run ended input out h =
+    record { in-run = h; size = refl; inside = zero-le; room = zero-le; long = refl; behind = refl; extends = λ rest texts e r. r }
+
+module _ {m : List ℕ} {run : Run} {ended : Bool} {input out now : List ℕ} {so : Run} {at end : ℕ} {left : List ℕ} (g : Going m run ended input out now so at end left) where
+  -- the part of the input at hand, in any file that goes on with `rest`
+  cut : (rest : List ℕ) → (ended ≡ true → rest ≡ []) → Cut (drop at (input ++ rest)) (drop at input) rest ended
+  cut rest e = record { joins = drop-append-le at input rest (g .inside); last = e }
+
+  here : end ≤ length left
+  here = omega (arith, g .room, g .long)
+
+  module _ {after lent : List ℕ} {r : Stepped}
+      (p : StepPromise now (so .lines) ended (take (length input - at) (drop at input)) (midOf end (length left - end) left) after lent r) where
+    step : StepPromise now (so .lines) ended (drop at input) (drop end left) after lent r
+    step = rw (← input-left input at, ← input-left left end) p
+
+    abbrev said : List ℕ
+    said = textOf (turn (stateOf now) (so .lines) ended (drop at input) (length (drop end left)))
+
+    fits : length said ≤ length (drop end left)
+    fits = rw (← step .count-is) (step .inside)
+
+    back-long : length (take end left ++ lent) ≡ length left
+    back-long =
+        let l = lent-long said (drop end left) lent (step .output-is) fits in
+        length-append (take end left) lent ∙ rw (front-long left lent end here, l, length-drop end left) (omega (arith, here))
+
+    fits-behind : end + writtenBy r ≤ length out
+    fits-behind = omega (arith, step .inside, length-drop end left, g .long, here)
+
+    back-behind : drop (end + writtenBy r) (take end left ++ lent) ≡ drop (end + writtenBy r) out
+    back-behind =
+        behind-is left lent end here (writtenBy r)
+        ∙ (rw (step .count-is) (lent-behind said (drop end left) lent (step .output-is) fits)
+        ∙ (ap (drop (writtenBy r)) (g .behind) ∙ drop-drop (writtenBy r) end out))
+
+    -- the same bytes of output, and the text behind those that were there
+    front-now : take (end + writtenBy r) (take end left ++ lent) ≡ take end left ++ take (writtenBy r) lent
+    front-now = front-grows left lent end here (writtenBy r)
+
+    pub after-size : length after ≡ length m
+    after-size = step-size now (g .in-run .room) step ∙ g .size
+
+    pub more-bytes : end + writtenBy r ≤ length out
+    more-bytes = fits-behind
+
+  -- where nothing was written
+  module _ {after lent : List ℕ} {r : Stepped} (none : writtenBy r ≡ 0)
+      (q : StepPromise now (so .lines) ended (take (length input - at) (drop at input)) (midOf end (length left - end) left) after lent r) where
+    nothing : end + writtenBy r ≡ end
+    nothing = omega (arith, none)
+
+    same-front : take end (take end left ++ lent) ≡ take end left
+    same-front = take-at (take end left) lent end (front-long left lent end here)
+
+    same-behind : drop end (take end left ++ lent) ≡ drop end out
+    same-behind = subst (λ (k : ℕ). drop k (take end left ++ lent) ≡ drop k out) nothing (back-behind q)
+
+  -- a line was written
+  pub going-more : {after lent : List ℕ} {l : Line}
+      → StepPromise now (so .lines) ended (take (length input - at) (drop at input)) (midOf end (length left - end) left) after lent (Wrote l)
+      → Going m run ended input out after (l .run) (at + l .taken) (end + l .written) (putMid end (length left - end) left lent)
+  going-more {after} {lent} {l} q =
+      let p = step q in
+      let taken : l .taken ≤ length (drop at input) = taken-inside p in
+      rw (given-back left lent end here)
+      (record {
+        in-run = next-in-run (g .in-run .room) p;
+        size = step-size now (g .in-run .room) p ∙ g .size;
+        inside = omega (arith, taken, length-drop at input, g .inside);
+        room = fits-behind q;
+        long = back-long q ∙ g .long;
+        behind = back-behind q;
+        extends = λ rest texts e r.
+            let next-left : Runs after (l .run) (drop (l .taken) (drop at (input ++ rest))) texts =
+            subst (λ (x : List ℕ). Runs after (l .run) x texts) (sym (drop-drop (l .taken) at (input ++ rest))) r in
+            let all : Runs m run (input ++ rest) (take end left ++ (take (l .written) lent ++ texts)) =
+            g .extends rest (take (l .written) lent ++ texts) e (next (cut rest e) p next-left) in
+            subst (Runs m run (input ++ rest)) (sym (append-assoc (take end left) (take (l .written) lent) texts) ∙ ap (λ (x : List ℕ). x ++ texts) (sym (front-now q))) all;
+      })
+
+  -- nothing was written, and the memory is as it was: no whole record is left, or there is no room for a line
+  pub going-wants : {after lent : List ℕ}
+      → StepPromise now (so .lines) ended (take (length input - at) (drop at input)) (midOf end (length left - end) left) after lent Wants
+      → PumpPromise m run ended input out after (putMid end (length left - end) left lent) (pumpedAs at end so false false)
+  going-wants {after} {lent} q =
+      let p = step q in
+      let kept : after ≡ now = wants-keeps p in
+      rw (given-back left lent end here, kept)
+      (record {
+        goes-on = λ o rest texts e r. subst (λ (x : List ℕ). Runs m run (input ++ rest) (x ++ texts)) (sym (same-front refl q)) (g .extends rest texts e r);
+        ends = λ o. absurd (let z : _≡_ {A = ℕ} 0 1 = cc in omega arith);
+        behind = same-behind refl q;
+        same-size = back-long q ∙ g .long;
+        memory-size = g .size;
+        inside = g .inside;
+        room = g .room;
+        in-run = g .in-run;
+        wants-more = λ o f. (few p, not-ended ended (λ e. ended-no-wants e p));
+        no-room = λ f. absurd (let z : _≡_ {A = ℕ} 0 1 = cc in omega arith);
+      })
+    where
+      few : StepPromise now (so .lines) ended (drop at input) (drop end left) after lent Wants → length input - at < 74
+      few p = go (ltb (length input - at) 74) refl
+        where
+          go : (b : Bool) → ltb (length input - at) 74 ≡ b → length input - at < 74
+          go true t = ltb-true (length input - at) 74 t
+          go false t = absurd (enough-no-wants (rw (length-drop at input) (ltb-false (length input - at) 74 t)) p)
+
+  pub going-full : {after lent : List ℕ}
+      → StepPromise now (so .lines) ended (take (length input - at) (drop at input)) (midOf end (length left - end) left) after lent Full
+      → PumpPromise m run ended input out after (putMid end (length left - end) left lent) (pumpedAs at end so true false)
+  going-full {after} {lent} q =
+      let p = step q in
+      let kept : after ≡ now = full-keeps p in
+      rw (given-back left lent end here, kept)
+      (record {
+        goes-on = λ o rest texts e r. subst (λ (x : List ℕ). Runs m run (input ++ rest) (x ++ texts)) (sym (same-front refl q)) (g .extends rest texts e r);
+        ends = λ o. absurd (let z : _≡_ {A = ℕ} 0 1 = cc in omega arith);
+        behind = same-behind refl q;
+        same-size = back-long q ∙ g .long;
+        memory-size = g .size;
+        inside = g .inside;
+        room = g .room;
+        in-run = g .in-run;
+        wants-more = λ o f. absurd (let z : _≡_ {A = ℕ} 0 1 = cc in omega arith);
+        no-room = λ f. small p;
+      })
+    where
+      small : StepPromise now (so .lines) ended (drop at input) (drop end left) after lent Full → length out - end < LONGEST
+      small p = go (ltb (length out - end) LONGEST) refl
+        where
+          go : (b : Bool) → ltb (length out - end) LONGEST ≡ b → length out - end < LONGEST
+          go true t = ltb-true (length out - end) LONGEST t
+          go false t =
+              let h : LONGEST ≤ length out - end = ltb-false (length out - end) LONGEST t in
+              absurd (room-no-full (rw (length-drop end left, g .long) h) p)
+
+  -- reading has ended, with the last line
+  pub going-ends : {after lent : List ℕ} {n : ℕ}
+      → StepPromise now (so .lines) ended (take (length input - at) (drop at input)) (midOf end (length left - end) left) after lent (Ends n)
+      → PumpPromise m run ended input out after (putMid end (length left - end) left lent) (pumpedAs at (end + n) so false true)
+  going-ends {after} {lent} {n} q =
+      let p = step q in
+      let kept : after ≡ now = left-is p ∙ memory-kept now in
+      rw (given-back left lent end here)
+      (record {
+        goes-on = λ o. absurd (let z : _≡_ {A = ℕ} 0 1 = cc in omega arith);
+        ends = λ o rest e. subst (Runs m run (input ++ rest)) (sym (front-now q)) (g .extends rest (take n lent) e (last (cut rest e) p));
+        behind = back-behind q;
+        same-size = back-long q ∙ g .long;
+        memory-size = after-size q;
+        inside = g .inside;
+        room = fits-behind q;
+        in-run = rw kept (g .in-run);
+        wants-more = λ o. absurd (let z : _≡_ {A = ℕ} 0 1 = cc in omega arith);
+        no-room = λ f. absurd (let z : _≡_ {A = ℕ} 0 1 = cc in omega arith);
+      })
+
+  -- what the next turn of the loop begins with
+  module _ {after lent : List ℕ} {l : Line}
+      (q : StepPromise now (so .lines) ended (take (length input - at) (drop at input)) (midOf end (length left - end) left) after lent (Wrote l)) where
+    pub taken-more : at + l .taken ≤ length input
+    taken-more = omega (arith, taken-inside (step q), length-drop at input, g .inside)
+
+    pub less-room : length out - (end + l .written) < length out - end
+    less-room = omega (arith, writes-some (step q), fits-behind q)
+
+  -- by the answer of the step
+  module _ {after lent : List ℕ} {r : Stepped}
+      (q : StepPromise now (so .lines) ended (take (length input - at) (drop at input)) (midOf end (length left - end) left) after lent r) where
+    told : {x : Stepped} → r ≡ x
+        → StepPromise now (so .lines) ended (take (length input - at) (drop at input)) (midOf end (length left - end) left) after lent x
+    told e = subst (StepPromise now (so .lines) ended (take (length input - at) (drop at input)) (midOf end (length left - end) left) after lent) e q
+
+    pub line-goes : {l : Line} → r ≡ Wrote l → Going m run ended input out after (l .run) (at + l .taken) (end + l .written) (putMid end (length left - end) left lent)
+    line-goes e = going-more (told e)
+
+    pub line-takes : {l : Line} → r ≡ Wrote l → at + l .taken ≤ length input
+    line-takes e = taken-more (told e)
+
+    pub line-fits : {l : Line} → r ≡ Wrote l → end + l .written ≤ length out
+    line-fits e = more-bytes (told e)
+
+    pub line-less : {l : Line} → r ≡ Wrote l → length out - (end + l .written) < length out - end
+    line-less e = less-room (told e)
+
+    pub wants-stops : r ≡ Wants → PumpPromise m run ended input out after (putMid end (length left - end) left lent) (pumpedAs at end so false false)
+    wants-stops e = going-wants (told e)
+
+    pub full-stops : r ≡ Full → PumpPromise m run ended input out after (putMid end (length left - end) left lent) (pumpedAs at end so true false)
+    full-stops e = going-full (told e)
+
+    pub end-stops : {n : ℕ} → r ≡ Ends n → PumpPromise m run ended input out after (putMid end (length left - end) left lent) (pumpedAs at (end + n) so false true)
+    end-stops e = going-ends (told e)
+
+    pub end-fits : {n : ℕ} → r ≡ Ends n → end + n ≤ length out
+    end-fits e = more-bytes (told e)

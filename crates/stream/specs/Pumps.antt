@@ -1,0 +1,32 @@
+-- Steps over the input at hand, one behind the other, until none can be taken: no whole record is left, the output has no room for a line, or reading has ended.
+use Prim.Native.Nat.{ℕ, _+_, _-_, _≤_, _<_}
+use mathlib.Core.Path.{_≡_}
+use mathlib.Core.Bool.{Bool, true, false}
+use mathlib.Core.List.{List, [], _++_}
+use lib.ListN.{length, take, drop}
+use Rattle.text.specs.Writes.{LONGEST}
+use Rattle.run.specs.Runs.{InRun}
+use Rattle.record.specs.declared.Run.{Run}
+use Rattle.record.specs.Promises.{Runs}
+use Rattle.stream.specs.declared.Pumped.{Pumped}
+
+abbrev pub pumpedAs : ℕ → ℕ → Run → Bool → Bool → Pumped
+pumpedAs taken written run isFull isOver = record { taken = taken; written = written; run = run; full = isFull; over = isOver }
+
+-- THE PROMISE: what was written is the text of steps over the input at hand, whatever comes behind it; `rest` is what the input goes on with
+pub record PumpPromise (m : List ℕ) (run : Run) (ended : Bool) (input output after left : List ℕ) (r : Pumped) : Type 0 where
+  -- every run of steps over what is left makes one over all of it
+  pub goes-on : r .over ≡ false → (rest texts : List ℕ) → (ended ≡ true → rest ≡ []) → Runs after (r .run) (drop (r .taken) (input ++ rest)) texts
+      → Runs m run (input ++ rest) (take (r .written) left ++ texts)
+  -- or reading has ended
+  pub ends : r .over ≡ true → (rest : List ℕ) → (ended ≡ true → rest ≡ []) → Runs m run (input ++ rest) (take (r .written) left)
+  -- "the bytes behind them stay"
+  pub behind : drop (r .written) left ≡ drop (r .written) output
+  pub same-size : length left ≡ length output
+  pub memory-size : length after ≡ length m
+  pub inside : r .taken ≤ length input
+  pub room : r .written ≤ length output
+  pub in-run : InRun after (r .run .opened)
+  -- why it stopped: less than the longest record is left and more is to come, or less than a line has room
+  pub wants-more : r .over ≡ false → r .full ≡ false → (length input - r .taken < 74) × (ended ≡ false)
+  pub no-room : r .full ≡ true → length output - r .written < LONGEST
