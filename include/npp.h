@@ -1,0 +1,500 @@
+/*
+ * The calls of the proved numbering plan processor, for C99 and for C++.
+ *
+ * LINKING. The library is one archive, target/staticlib/libcapi.a (`rt staticlib capi` builds it), for
+ * x86-64 programs. It asks the system for memcpy, memmove and memset and for nothing else, so that
+ * every C program can link it without a further library:
+ *
+ *     cc -std=c99 -Iinclude program.c target/staticlib/libcapi.a -o program
+ *
+ * It allocates nothing and keeps nothing between calls: a plan is the memory that the caller lends.
+ *
+ * WHAT IS PROVED. Each call below is proved to end, and to give and to write exactly what document 01
+ * defines, for any content and any length of what is lent. The promise of a call stands behind
+ * `ensures` in crates/capi/src/lib.rt; docs/PROMISES.md gives the place of every proof, docs/LAYOUT.md
+ * every byte of the plan memory, docs/DECISIONS.md how document 01 is read where it is open. This file
+ * says the same in words. It is not proved itself.
+ *
+ * WHAT A CALLER OWES.
+ * - A pointer and the length behind it are those of memory that the caller may lend: to be read, and to
+ *   be written too where the pointer is not const. No other thread writes it during the call, nor
+ *   reads what the call writes.
+ * - The buffers lent to one call do not overlap. (Two that are both only read may.)
+ * - A null pointer comes only with length 0.
+ * - Nobody but these calls writes the plan memory between them. (A plan that somebody else has written
+ *   is examined like any other memory, and used if it is sound; but then it need not hold what the
+ *   calls put in.)
+ *
+ * REFUSALS. A call that is refused gives the number of its refusal, every other field 0, and changes
+ * nothing that was lent. Each call names its refusals in the order of its checks: the number given is
+ * the first whose line holds. 0 means that nothing was refused.
+ *
+ * TIME. Every call but npp_open examines the whole plan before it uses it, so that its time grows with
+ * the rooms of the plan; npp_replay does so for each call that it runs, and reading a listing with
+ * npp_rule_at does so for each rule.
+ */
+#ifndef NPP_H
+#define NPP_H
+
+#include <stddef.h>
+#include <stdint.h>
+#ifndef __cplusplus
+#include <stdbool.h>
+#endif
+
+/* ---- Refusal numbers ---- */
+
+#define NPP_CUT 1     /* a body is shorter than its kind says */
+#define NPP_KIND 2    /* unknown kind byte: for programs over files of records; no call here gives it */
+#define NPP_PLAN 3    /* any call but opening: the lent plan memory is not a sound plan of this build */
+#define NPP_ROOM 4    /* opening: plan memory too small for the rooms asked; or a buffer too small */
+#define NPP_RANGE 5   /* a number outside its stated values, a prefix longer than a stated length,
+                         an unused byte not 0, a set number at or over the room */
+#define NPP_GROUPS 6  /* a group rule of action sets broken */
+#define NPP_TAKEN 7   /* adding a set or a filter that is there already */
+#define NPP_ABSENT 8  /* a named set (but one being added), or a filter to change or remove, not there */
+#define NPP_MISFIT 9  /* a rule and its set do not fit */
+#define NPP_FULL 10   /* adding a rule when the rules held equal the room */
+#define NPP_IN_USE 11 /* removing a set that a rule names */
+#define NPP_SHORT 12  /* conditioning meets too few digits */
+#define NPP_LONG 13   /* outgoing digits over 32 */
+
+/* ---- Classes ---- */
+
+#define NPP_INTL 0
+#define NPP_NATL 1
+#define NPP_UNKNOWN 2
+#define NPP_HOUSE3 3
+#define NPP_HOUSE4 4
+#define NPP_HOUSE5 5
+#define NPP_AS_INCOMING 255 /* as a set's outgoing class alone */
+
+/* ---- Outcomes of a number ---- */
+
+#define NPP_NO_RULE 0   /* no filter fits */
+#define NPP_ESCAPED 1   /* the set has no conditioning action */
+#define NPP_RESPONDED 2 /* INPRTG's answer is not RELAY */
+#define NPP_UNCHANGED 3 /* formatting is withheld */
+#define NPP_FORMATTED 4 /* the outgoing digits are given */
+
+/* ---- INPRTG's answers: the response of a number ---- */
+
+#define NPP_RELAY 1
+#define NPP_CONNECT 2
+#define NPP_CONTINUE 3
+#define NPP_RELEASECALL 4
+
+/* ---- Lookup kinds ---- */
+
+#define NPP_LOOKUP_NO_RECORD 0
+#define NPP_LOOKUP_NO_ENTITY 1 /* record without entity */
+#define NPP_LOOKUP_RN 2
+#define NPP_LOOKUP_SP 3
+
+/* ---- Conditioning actions: a code, and behind it a count ---- */
+
+#define NPP_CA_IGN 1    /* count 1 to 16 */
+#define NPP_CA_CC 2     /* 1 to 3 */
+#define NPP_CA_AC 3     /* 1 to 8 */
+#define NPP_CA_SN 4     /* 1 to 15 */
+#define NPP_CA_DN 5     /* 1 to 15 */
+#define NPP_CA_ZN 6     /* 1 to 15 */
+#define NPP_CA_PFXA 7   /* 1 to 8 */
+#define NPP_CA_PFXB 8   /* 1 to 8 */
+#define NPP_CA_PFXC 9   /* 1 to 8 */
+#define NPP_CA_PFXD 10  /* 1 to 8 */
+#define NPP_CA_SNX 11   /* count 0 from here on */
+#define NPP_CA_DNX 12
+#define NPP_CA_ZNX 13
+#define NPP_CA_FPFX 14
+#define NPP_CA_CCDEF 15
+
+/* ---- Service actions ---- */
+
+#define NPP_SA_INPRTG 1
+#define NPP_SA_CDPNNP 2
+#define NPP_SA_ASDLKUP 3
+#define NPP_SA_GRNLKUP 4
+#define NPP_SA_CDIAL 5
+
+/* ---- Formatting actions; 1 to 10 name the values of npp_stretch too ---- */
+
+#define NPP_FA_CC 1
+#define NPP_FA_AC 2
+#define NPP_FA_SN 3
+#define NPP_FA_DN 4
+#define NPP_FA_ZN 5
+#define NPP_FA_FPFX 6
+#define NPP_FA_PFXA 7
+#define NPP_FA_PFXB 8
+#define NPP_FA_PFXC 9
+#define NPP_FA_PFXD 10
+#define NPP_FA_RN 11
+#define NPP_FA_SP 12
+#define NPP_FA_ASD 13
+#define NPP_FA_GRN 14
+#define NPP_FA_DELIMITER_A 15
+#define NPP_FA_DELIMITER_B 16
+
+/*
+ * ---- Bodies ----
+ *
+ * Two-byte numbers have the high byte first. A digit is 0 to 15, one a byte. A digit string is a length
+ * byte and then its full width; "1+3" is a length byte and 3 bytes. Unused bytes are 0. Each list of a
+ * set ends at its first code 0, and every byte of it behind that is unused.
+ *
+ * A body may be lent with more bytes behind it: they are not looked at.
+ */
+
+#define NPP_OPEN_BYTES 40       /* npp_open */
+#define NPP_SET_BYTES 47        /* npp_add_set, npp_replace_set */
+#define NPP_SET_NUMBER_BYTES 2  /* npp_remove_set */
+#define NPP_RULE_BYTES 21       /* npp_add_rule, npp_change_rule */
+#define NPP_FILTER_BYTES 19     /* npp_remove_rule */
+#define NPP_NUMBER_BYTES 73     /* npp_answer */
+
+/* Where the fields of an opening stand. */
+#define NPP_OPEN_SETS_AT 0         /* 2: room for sets, 1 to 1,024 */
+#define NPP_OPEN_RULES_AT 2        /* 2: room for rules, 1 to 4,096 */
+#define NPP_OPEN_COUNTRY_AT 4      /* 1+3: default country code, 1 to 3 digits */
+#define NPP_OPEN_DFLTRN_AT 8       /* 1+15: default routing number; no digits: not configured */
+#define NPP_OPEN_DELIMITER_A_AT 24 /* 1+5 */
+#define NPP_OPEN_DELIMITER_B_AT 30 /* 1+5 */
+#define NPP_OPEN_ANSWERS_AT 36     /* 4: INPRTG's answers for the lookup kinds 0, 1, 2, 3 */
+
+/* Where the fields of a set stand; the body of a removal is its number alone. */
+#define NPP_SET_NUMBER_AT 0 /* 2 */
+#define NPP_SET_CLASS_AT 2  /* 1: outgoing class, 0 to 5, or 255 for "as incoming" */
+#define NPP_SET_CA_AT 3     /* 12 pairs, code and count */
+#define NPP_SET_SA_AT 27    /* 8 codes */
+#define NPP_SET_FA_AT 35    /* 12 codes */
+
+/* Where the fields of a rule stand; the first 19 bytes are its filter. */
+#define NPP_RULE_CLASS_AT 0   /* 1 */
+#define NPP_RULE_PREFIX_AT 1  /* 1+16; no digits: wildcard */
+#define NPP_RULE_LENGTH_AT 18 /* 1: 1 to 32; 0: wildcard */
+#define NPP_RULE_SET_AT 19    /* 2: the number of the set it names */
+
+/* Where the fields of a number stand. */
+#define NPP_NUMBER_CLASS_AT 0   /* 1 */
+#define NPP_NUMBER_DIGITS_AT 1  /* 1+32 */
+#define NPP_NUMBER_LOOKUP_AT 34 /* 1: the lookup's kind */
+#define NPP_NUMBER_ENTITY_AT 35 /* 1+15: 1 to 15 digits for kinds 2 and 3, else none */
+#define NPP_NUMBER_ASD_AT 51    /* 1+10: none for kind 0 */
+#define NPP_NUMBER_GRN_AT 62    /* 1+10: none for kind 0 */
+
+/* ---- Kinds of house records, for npp_replay ---- */
+
+#define NPP_RECORD_OPEN 0
+#define NPP_RECORD_ADD_SET 1
+#define NPP_RECORD_REPLACE_SET 2
+#define NPP_RECORD_REMOVE_SET 3
+#define NPP_RECORD_ADD_RULE 4
+#define NPP_RECORD_CHANGE_RULE 5
+#define NPP_RECORD_REMOVE_RULE 6
+
+/* ---- Sizes ---- */
+
+/* The least bytes of a buffer for digits (npp_answer, npp_conditioned) and for a set's content. */
+#define NPP_DIGIT_BUFFER_BYTES 35
+#define NPP_CONTENT_BUFFER_BYTES 47
+
+/* The least bytes of the memory of a plan with these rooms: 64, 48 a set and 24 a rule. */
+#define NPP_PLAN_BYTES(sets, rules) ((size_t)64 + (size_t)48 * (size_t)(sets) + (size_t)24 * (size_t)(rules))
+
+#ifdef __cplusplus
+extern "C" {
+#endif
+
+/*
+ * ---- What the calls give ----
+ *
+ * Where `refusal` is not 0, every other field is 0. `class_code` is the field `class` of the library,
+ * a word that C++ keeps for itself.
+ */
+
+/* What npp_answer gives. */
+typedef struct npp_answered {
+    uint8_t refusal;    /* 0, or the number of the refusal */
+    uint8_t outcome;    /* 0 to 4 */
+    uint8_t class_code; /* in outcomes 1 and 4 the set's class, the incoming one where that is 255;
+                           else the incoming one */
+    uint8_t response;   /* 1 to 4 if INPRTG was carried out, else 0 */
+    uint8_t count;      /* how many service actions were carried out */
+    uint8_t actions[8]; /* their codes in order, 0 behind the last */
+    size_t digits;      /* how many outgoing digits stand at the front of `out`, 0 to 32 */
+} npp_answered;
+
+/* What npp_conditioned and npp_set_content give. */
+typedef struct npp_written {
+    uint8_t refusal; /* 0, or the number of the refusal */
+    size_t bytes;    /* how many bytes were written at the front of `out` */
+} npp_written;
+
+/* What npp_referrers and npp_rule_count give. */
+typedef struct npp_counted {
+    uint8_t refusal; /* 0, or the number of the refusal */
+    size_t rules;    /* how many rules were counted */
+} npp_counted;
+
+/* What npp_stretch gives. */
+typedef struct npp_span {
+    size_t start; /* the place of its first digit in `digits` */
+    size_t count; /* how many digits it has */
+} npp_span;
+
+/* What npp_rule_at gives. */
+typedef struct npp_listed {
+    uint8_t refusal;    /* 0, or the number of the refusal */
+    uint8_t class_code; /* the filter's class */
+    uint8_t digits;     /* how many digits the prefix has; 0: wildcard */
+    uint8_t length;     /* the filter's length; 0: wildcard */
+    uint8_t prefix[16]; /* the prefix's digits; the bytes behind them are 0 */
+    uint16_t set;       /* the number of the set that the rule names */
+} npp_listed;
+
+/*
+ * ---- The plan memory ----
+ */
+
+/*
+ * Whether a memory is a sound plan of this build (docs/LAYOUT.md, "Sound"). Bytes behind the size that
+ * the plan's rooms need are not looked at.
+ *
+ * Gives true exactly if it is. Writes nothing. Refuses nothing: a memory of any length and content is
+ * answered.
+ */
+bool npp_sound(const uint8_t *memory, size_t memory_bytes);
+
+/*
+ * ---- Opening and provisioning ----
+ *
+ * Each of these seven calls gets the plan memory and a body. It gives 0 if it is accepted, else the
+ * number of its refusal. An accepted call leaves the plan with the change made, in every byte as
+ * docs/LAYOUT.md lays it out; the bytes behind the size that its rooms need stay. A refused call leaves
+ * every byte as it was. The body is not written.
+ *
+ * PLAN is never given over a memory on which an opening was accepted and which nobody but these calls
+ * has written since.
+ */
+
+/*
+ * Opens a plan over a memory, whatever it holds. An accepted opening starts afresh: the plan has the
+ * rooms and settings of the body, no set and no rule. A refused one leaves the old plan in force.
+ *
+ * Refusals, in order:
+ *   1 CUT    body_bytes is under 40
+ *   5 RANGE  a field is out of range, or an unused byte is not 0
+ *   4 ROOM   plan_bytes is under NPP_PLAN_BYTES of the rooms asked
+ */
+uint8_t npp_open(uint8_t *plan, size_t plan_bytes, const uint8_t *body, size_t body_bytes);
+
+/*
+ * Adds the set of the body's number, with the body's content.
+ *
+ * Refusals, in order:
+ *   1 CUT     body_bytes is under 47
+ *   3 PLAN    the memory is not a sound plan
+ *   5 RANGE   the set number is at or over the room, a field of the content is out of range, or an
+ *             unused byte is not 0
+ *   6 GROUPS  the content breaks a group rule
+ *   7 TAKEN   a set of this number is held
+ */
+uint8_t npp_add_set(uint8_t *plan, size_t plan_bytes, const uint8_t *body, size_t body_bytes);
+
+/*
+ * Gives the set of the body's number the body's content in place of its own. Every rule that names it
+ * must fit the new content.
+ *
+ * Refusals, in order:
+ *   1 CUT     body_bytes is under 47
+ *   3 PLAN    the memory is not a sound plan
+ *   5 RANGE   the set number is at or over the room, a field of the content is out of range, or an
+ *             unused byte is not 0
+ *   6 GROUPS  the content breaks a group rule
+ *   8 ABSENT  no set of this number is held
+ *   9 MISFIT  a rule that names the set does not fit the content
+ */
+uint8_t npp_replace_set(uint8_t *plan, size_t plan_bytes, const uint8_t *body, size_t body_bytes);
+
+/*
+ * Removes the set of the body's number. Its room is used again.
+ *
+ * Refusals, in order:
+ *   1 CUT     body_bytes is under 2
+ *   3 PLAN    the memory is not a sound plan
+ *   5 RANGE   the set number is at or over the room
+ *   8 ABSENT  no set of this number is held
+ *  11 IN USE  a rule names the set
+ */
+uint8_t npp_remove_set(uint8_t *plan, size_t plan_bytes, const uint8_t *body, size_t body_bytes);
+
+/*
+ * Adds a rule with the body's filter, which names the body's set. It stands at its place in listing
+ * order.
+ *
+ * Refusals, in order:
+ *   1 CUT     body_bytes is under 21
+ *   3 PLAN    the memory is not a sound plan
+ *   5 RANGE   the filter is out of range, its prefix is longer than its stated length, an unused byte
+ *             is not 0, or the set number is at or over the room
+ *   7 TAKEN   a rule with this filter is held
+ *   8 ABSENT  no set of this number is held
+ *   9 MISFIT  the filter and the set do not fit
+ *  10 FULL    the rules held equal the room
+ */
+uint8_t npp_add_rule(uint8_t *plan, size_t plan_bytes, const uint8_t *body, size_t body_bytes);
+
+/*
+ * Has the rule of the body's filter name the body's set. It may be the set that it names already.
+ *
+ * Refusals, in order:
+ *   1 CUT     body_bytes is under 21
+ *   3 PLAN    the memory is not a sound plan
+ *   5 RANGE   as in npp_add_rule
+ *   8 ABSENT  no rule with this filter is held, or no set of this number
+ *   9 MISFIT  the filter and the set do not fit
+ */
+uint8_t npp_change_rule(uint8_t *plan, size_t plan_bytes, const uint8_t *body, size_t body_bytes);
+
+/*
+ * Removes the rule of the body's filter. Its room is used again.
+ *
+ * Refusals, in order:
+ *   1 CUT     body_bytes is under 19
+ *   3 PLAN    the memory is not a sound plan
+ *   5 RANGE   the filter is out of range, its prefix is longer than its stated length, or an unused
+ *             byte is not 0
+ *   8 ABSENT  no rule with this filter is held
+ */
+uint8_t npp_remove_rule(uint8_t *plan, size_t plan_bytes, const uint8_t *body, size_t body_bytes);
+
+/*
+ * Runs a list of these calls on one plan memory. `calls` holds house records one behind the other, a
+ * kind byte (0 to 6) and its body of just the length above; each call gets the plan as the last one
+ * left it.
+ *
+ * Gives how many calls were carried out, refused ones included. Writes the number of each, 0 or its
+ * refusal, at the front of `numbers`, whose other bytes stay, and leaves the plan memory as these calls
+ * leave it. It ends before the first byte that is not a kind 0 to 6, before the first record that is
+ * cut, and where `numbers` is full: with numbers_bytes 0 nothing is carried out. A call that is refused
+ * does not end it. `calls` is not written. It has no refusal of its own.
+ */
+size_t npp_replay(uint8_t *plan, size_t plan_bytes, const uint8_t *calls, size_t calls_bytes,
+                  uint8_t *numbers, size_t numbers_bytes);
+
+/*
+ * ---- Answering a number ----
+ */
+
+/*
+ * Answers the number of the body: finds the most specific rule that fits, and carries out its set's
+ * conditioning, service and formatting actions with the body's lookup.
+ *
+ * Gives the answer, field by field as npp_answered says. Outcome 4 writes the outgoing digits, one a
+ * byte, at the front of `out`; the bytes behind them stay. Outcomes 0 to 3 and refusals write nothing.
+ * Plan and body are not written.
+ *
+ * Refusals, in order:
+ *   1 CUT    body_bytes is under 73
+ *   3 PLAN   the memory is not a sound plan
+ *   4 ROOM   out_bytes is under 35, whatever the outcome would be
+ *   5 RANGE  a field of the body is out of range, or an unused byte is not 0
+ *  12 SHORT  conditioning meets too few digits
+ *  13 LONG   outcome 4 with more than 32 outgoing digits
+ */
+npp_answered npp_answer(const uint8_t *plan, size_t plan_bytes, const uint8_t *body, size_t body_bytes,
+                        uint8_t *out, size_t out_bytes);
+
+/*
+ * ---- The read calls ----
+ *
+ * None of them writes the plan or the digits.
+ */
+
+/*
+ * The conditioned number, for the lookup: ZN, or CC then DN, or CC then AC then SN.
+ *
+ * Writes its 1 to 35 digits at the front of `out` and gives how many; the bytes behind them stay. Where
+ * no rule fits, or the set has no conditioning action, it writes none and gives 0 bytes, refusal 0.
+ *
+ * Refusals, in order:
+ *   3 PLAN   the memory is not a sound plan
+ *   4 ROOM   out_bytes is under 35
+ *   5 RANGE  class_code is over 5, digit_count is over 32, or a digit is over 15
+ *  12 SHORT  conditioning meets too few digits
+ */
+npp_written npp_conditioned(const uint8_t *plan, size_t plan_bytes, uint8_t class_code, const uint8_t *digits,
+                            size_t digit_count, uint8_t *out, size_t out_bytes);
+
+/*
+ * The stretch of the incoming digits that a value covers. `value` is its formatting action's code, 1 to
+ * 10 (NPP_FA_CC to NPP_FA_PFXD).
+ *
+ * Gives its start and count in `digits`. The empty stretch, start 0 and count 0, is given where the
+ * value is not 1 to 10 or is not taken from the number (no conditioning action sets it, or CCDEF sets
+ * CC), where no rule fits or the set has no conditioning action, and where npp_conditioned with room
+ * enough would be refused: PLAN, RANGE, SHORT. Writes nothing. It has no refusal number.
+ */
+npp_span npp_stretch(const uint8_t *plan, size_t plan_bytes, uint8_t class_code, const uint8_t *digits,
+                     size_t digit_count, uint8_t value);
+
+/*
+ * The content of a set.
+ *
+ * Writes 47 bytes at the front of `out`, a body as npp_add_set takes it: the number, and the content as
+ * it was last accepted. Gives 47 bytes; the bytes behind them stay.
+ *
+ * Refusals, in order:
+ *   3 PLAN    the memory is not a sound plan
+ *   4 ROOM    out_bytes is under 47
+ *   5 RANGE   the set number is at or over the room
+ *   8 ABSENT  no set of this number is held
+ */
+npp_written npp_set_content(const uint8_t *plan, size_t plan_bytes, uint16_t set, uint8_t *out, size_t out_bytes);
+
+/*
+ * How many rules name a set.
+ *
+ * Gives the count. Writes nothing.
+ *
+ * Refusals, in order:
+ *   3 PLAN    the memory is not a sound plan
+ *   5 RANGE   the set number is at or over the room
+ *   8 ABSENT  no set of this number is held
+ */
+npp_counted npp_referrers(const uint8_t *plan, size_t plan_bytes, uint16_t set);
+
+/*
+ * ---- The listing ----
+ *
+ * Rules are listed by class rising; then by prefix as digits, the shorter first where one begins the
+ * other; then by stated length rising, the wildcard last.
+ */
+
+/*
+ * How many rules are listed.
+ *
+ * Gives the count, 0 to 4,096. Writes nothing.
+ *
+ * Refusals:
+ *   3 PLAN   the memory is not a sound plan
+ */
+npp_counted npp_rule_count(const uint8_t *plan, size_t plan_bytes);
+
+/*
+ * The rule at a place of the listing, counted from 0. A place is not a set number.
+ *
+ * Gives every field of the rule. Writes nothing.
+ *
+ * Refusals, in order:
+ *   3 PLAN   the memory is not a sound plan
+ *   5 RANGE  the place is at or over the count of rules
+ */
+npp_listed npp_rule_at(const uint8_t *plan, size_t plan_bytes, uint16_t place);
+
+#ifdef __cplusplus
+}
+#endif
+
+#endif
