@@ -1,5 +1,5 @@
 // The program: house records from the file that its one argument names, or from standard input, and their lines to standard output. A file that cannot be
-// opened, a read or a write that fails, is named on standard error.
+// opened, or a read or a write that fails, is named on standard error; a write to a pipe that nobody reads ends the program.
 use libc::STDERR_FILENO;
 use libc::STDIN_FILENO;
 use libc::STDOUT_FILENO;

@@ -42,9 +42,6 @@ const LIST_BYTES: usize = 1;
 
 const LAST_KIND: u8 = 9;
 
-// Where the digits of a number line stand.
-const HEAD: usize = 8;
-
 // The state of a run beside its plan: whether an opening was accepted, and how many lines of a listing are written already.
 pub struct Run {
     pub opened: bool,
@@ -102,7 +99,7 @@ fn number_record<'a>(plan: &'a [u8], opened: bool, body: &'a [u8], output: &mut 
     if !settings::number_in_range(body) {
         return text::no_line(RANGE, output);
     }
-    let a = number::answer_known(plan, body, &mut output[HEAD..]);
+    let a = number::answer_known(plan, body, &mut output[text::DIGITS_AT..]);
     text::number_line(a, output)
 }
 

@@ -82,6 +82,9 @@ module _ {m : List ℕ} {run : Run} {ended : Bool} {input out now : List ℕ} {s
   cut : (rest : List ℕ) → (ended ≡ true → rest ≡ []) → Cut (drop at (input ++ rest)) (drop at input) rest ended
   cut rest e = record { joins = drop-append-le at input rest (g .inside); last = e }
 
+  room-left : length out - end ≡ length (drop end left)
+  room-left = sym (length-drop end left ∙ ap (λ (n : ℕ). n - end) (g .long))
+
   here : end ≤ length left
   here = omega (arith, g .room, g .long)
 
@@ -172,6 +175,8 @@ module _ {m : List ℕ} {run : Run} {ended : Bool} {input out now : List ℕ} {s
         inside = g .inside;
         room = g .room;
         in-run = g .in-run;
+        stops-wanting = λ o f. ap (turn (stateOf now) (so .lines) ended (drop at input)) room-left ∙ sym (p .turn-is);
+        stops-full = λ f. absurd (let z : _≡_ {A = ℕ} 0 1 = cc in omega arith);
         wants-more = λ o f. (few p, not-ended ended (λ e. ended-no-wants e p));
         no-room = λ f. absurd (let z : _≡_ {A = ℕ} 0 1 = cc in omega arith);
       })
@@ -199,6 +204,8 @@ module _ {m : List ℕ} {run : Run} {ended : Bool} {input out now : List ℕ} {s
         inside = g .inside;
         room = g .room;
         in-run = g .in-run;
+        stops-wanting = λ o f. absurd (let z : _≡_ {A = ℕ} 0 1 = cc in omega arith);
+        stops-full = λ f. ap (turn (stateOf now) (so .lines) ended (drop at input)) room-left ∙ sym (p .turn-is);
         wants-more = λ o f. absurd (let z : _≡_ {A = ℕ} 0 1 = cc in omega arith);
         no-room = λ f. small p;
       })
@@ -229,6 +236,8 @@ module _ {m : List ℕ} {run : Run} {ended : Bool} {input out now : List ℕ} {s
         inside = g .inside;
         room = fits-behind q;
         in-run = rw kept (g .in-run);
+        stops-wanting = λ o. absurd (let z : _≡_ {A = ℕ} 0 1 = cc in omega arith);
+        stops-full = λ f. absurd (let z : _≡_ {A = ℕ} 0 1 = cc in omega arith);
         wants-more = λ o. absurd (let z : _≡_ {A = ℕ} 0 1 = cc in omega arith);
         no-room = λ f. absurd (let z : _≡_ {A = ℕ} 0 1 = cc in omega arith);
       })

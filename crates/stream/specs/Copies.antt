@@ -18,7 +18,7 @@ TakesOn m n Done = Unit {0}
 TakesOn m n NotRead = Unit {0}
 TakesOn m n NotWritten = Unit {0}
 
--- what is not taken yet stands at the front of the input
+-- less than the longest record is not taken yet
 pub record Handed (m : List ℕ) (r : Rest) : Type 0 where
   pub in-run : InRun m (r .run .opened)
   pub few : r .have < 74

@@ -6,6 +6,8 @@ use mathlib.Core.List.{List, [], _++_}
 use lib.ListN.{length, take, drop}
 use Rattle.text.specs.Writes.{LONGEST}
 use Rattle.run.specs.Runs.{InRun}
+use Rattle.plan.specs.State.{stateOf}
+use Rattle.record.specs.Turns.{wants, full, turn}
 use Rattle.record.specs.declared.Run.{Run}
 use Rattle.record.specs.Promises.{Runs}
 use Rattle.stream.specs.declared.Pumped.{Pumped}
@@ -27,6 +29,10 @@ pub record PumpPromise (m : List ℕ) (run : Run) (ended : Bool) (input output a
   pub inside : r .taken ≤ length input
   pub room : r .written ≤ length output
   pub in-run : InRun after (r .run .opened)
-  -- why it stopped: less than the longest record is left and more is to come, or less than a line has room
+  -- why it stopped: no whole record is left and more is to come, or a line has no room
+  pub stops-wanting : r .over ≡ false → r .full ≡ false
+      → turn (stateOf after) (r .run .lines) ended (drop (r .taken) input) (length output - r .written) ≡ wants
+  pub stops-full : r .full ≡ true → turn (stateOf after) (r .run .lines) ended (drop (r .taken) input) (length output - r .written) ≡ full
+  -- so that less than the longest record is left, or less than the longest line has room
   pub wants-more : r .over ≡ false → r .full ≡ false → (length input - r .taken < 74) × (ended ≡ false)
   pub no-room : r .full ≡ true → length output - r .written < LONGEST

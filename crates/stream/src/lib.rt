@@ -84,7 +84,7 @@ pub fn begin(plan: &mut [u8]) -> Run
 
 // Takes what the input at hand holds, and writes its lines.
 fn drain(to: i32, plan: &mut [u8], run: Run, ended: bool, input: &[u8], output: &mut [u8]) -> Turned
-    requires { ⌜ InRun (now plan) (run .opened) ⌝ }
+    requires { ⌜ InRun (now plan) (run .opened) × (41 ≤ length (now output)) ⌝ }
     ensures { λ r. ⌜ TakesOn (now (plan .exit)) (length (now (input .entry))) r ⌝ }
 {
     let mut now = run;
@@ -118,7 +118,7 @@ fn turn(
     input: &mut [u8],
     output: &mut [u8],
 ) -> Turned
-    requires { ⌜ Handed (now plan) rest × (74 ≤ length (now input)) ⌝ }
+    requires { ⌜ Handed (now plan) rest × (74 ≤ length (now input)) × (41 ≤ length (now output)) ⌝ }
     ensures { λ r. ⌜ HandsOn (now (plan .exit)) r ⌝ }
 {
     let have = rest.have;
@@ -147,7 +147,7 @@ fn turn(
 
 // Writes to one descriptor the lines of the house records that another gives, to its end or until reading has ended.
 pub fn copy(from: i32, to: i32, plan: &mut [u8], input: &mut [u8], output: &mut [u8]) -> Turned
-    requires { ⌜ (15424 ≤ length (now plan)) × (74 ≤ length (now input)) ⌝ }
+    requires { ⌜ (15424 ≤ length (now plan)) × (74 ≤ length (now input)) × (41 ≤ length (now output)) ⌝ }
 {
     let mut rest = Rest {
         run: begin(plan),

@@ -25,7 +25,7 @@ loop-holds c =
     }
 
 turn-requires : tie.Need-turn-requires Inv-loop μ-loop
-turn-requires c κs = let i = c .before .before .before .before .loop .inv in (i .handed, search (needs, i .input-size))
+turn-requires c κs = let i = c .before .before .before .before .loop .inv in (i .handed, search (needs, i .input-size), search (needs, i .output-size))
 
 enum-known-r : tie.Need-enum-known-r Inv-loop μ-loop
 enum-known-r c = search needs

@@ -15,7 +15,7 @@ abbrev μ-loop : tie.MeasureT-loop
 loop-holds : tie.Need-loop-holds Inv-loop μ-loop
 loop-holds c =
     let b = c .before .before .before in
-    draining-start (b .args .plan .now) (b .args .input .now) (b .args .output .now) (b .args .run) (b .pre)
+    draining-start (b .args .plan .now) (b .args .input .now) (b .args .output .now) (b .args .run) (b .pre .0)
 
 sub-pump : tie.Need-sub-pump Inv-loop μ-loop
 sub-pump c = search needs
