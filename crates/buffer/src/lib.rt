@@ -3,7 +3,7 @@ ghost use mathlib.Core.Path.{_≡_};
 ghost use mathlib.Core.List.{_++_, [], _∷_};
 ghost use Prim.Native.Nat.{_+_, _*_, _-_, _<_, _≤_};
 ghost use lib.ListN.{length, take, drop, set};
-ghost use Rattle.meaning.specs.Basics.{writtenOver, all, isZero, isDigit, digitsInRange};
+ghost use Rattle.meaning.specs.Basics.{writtenOver, all, isZero, isDigit};
 ghost use Rattle.buffer.specs.Bytes.{Byte, Word, atMost, withWord};
 ghost use Rattle.buffer.specs.Zeros.{zeros};
 ghost use Rattle.buffer.specs.Slots.{slots, withSlots, insertAt, removeAt};
@@ -125,31 +125,6 @@ pub fn all_digits(s: &[u8]) -> bool
     ensures { λ r. ⌜ r ≡ all isDigit (now (s .entry)) ⌝ }
 {
     all_at_most(s, 15)
-}
-
-// Whether a digit string, its length byte and then its full width, has lo to hi digits and nothing behind them.
-pub fn digits_in_range(s: &[u8], lo: usize, hi: usize) -> bool
-    ensures { λ r. ⌜ r ≡ digitsInRange lo hi (now (s .entry)) ⌝ }
-{
-    if s.len() == 0 {
-        return false;
-    }
-    let n = wide(s[0]);
-    if n < lo {
-        return false;
-    }
-    if hi < n {
-        return false;
-    }
-    let width = s.len() - 1;
-    if width <= n {
-        return all_digits(&s[1..]);
-    }
-    let e = n + 1;
-    if !all_digits(&s[1..e]) {
-        return false;
-    }
-    all_zero(&s[e..])
 }
 
 // Slot i of the slots of w bytes becomes x.

@@ -36,7 +36,7 @@ pub fn filter_in_range(code: &[u8]) -> bool
     let ClassOf::Known(_) = Class::of(code[CLASS]) else {
         return false;
     };
-    if !buffer::digits_in_range(&code[PREFIX..LENGTH], 0, 16) {
+    if !blocks::digits_in_range(&code[PREFIX..LENGTH], 0, 16) {
         return false;
     }
     let len = code[LENGTH];

@@ -1,7 +1,7 @@
 // RANGE of an opening's rooms and settings, and of a number: its class, its digits and its lookup.
 ghost use mathlib.Core.Path.{_≡_};
 ghost use lib.ListN.{length};
-ghost use Rattle.meaning.specs.Basics.{all, within, isDigit};
+ghost use Rattle.meaning.specs.Basics.{if_then_else_, all, within, isDigit};
 ghost use Rattle.meaning.specs.Settings.{isClass, roomsInRange, settingsInRange, entityInRange, asdOrGrnInRange, lookupInRange, numberInRange, dialledInRange};
 use meaning::Class;
 use meaning::ClassOf;
@@ -48,16 +48,16 @@ pub fn settings_in_range(settings: &[u8]) -> bool
     requires { ⌜ length (now settings) ≡ 36 ⌝ }
     ensures { λ r. ⌜ r ≡ settingsInRange (now (settings .entry)) ⌝ }
 {
-    if !buffer::digits_in_range(&settings[0..4], 1, 3) {
+    if !blocks::digits_in_range(&settings[0..4], 1, 3) {
         return false;
     }
-    if !buffer::digits_in_range(&settings[4..20], 0, 15) {
+    if !blocks::digits_in_range(&settings[4..20], 0, 15) {
         return false;
     }
-    if !buffer::digits_in_range(&settings[20..26], 0, 5) {
+    if !blocks::digits_in_range(&settings[20..26], 0, 5) {
         return false;
     }
-    if !buffer::digits_in_range(&settings[26..32], 0, 5) {
+    if !blocks::digits_in_range(&settings[26..32], 0, 5) {
         return false;
     }
     answers_in_range(&settings[32..36])
@@ -73,26 +73,25 @@ pub fn is_class(b: u8) -> bool
     }
 }
 
+// One of two limits, by a test.
+fn limit(test: bool, a: usize, b: usize) -> usize
+    ensures { λ r. ⌜ r ≡ (if test then a else b) ⌝ }
+{
+    if test { a } else { b }
+}
+
 // Whether the entity of a lookup is in range for its kind.
 fn entity_in_range(kind: u8, entity: &[u8]) -> bool
     ensures { λ r. ⌜ r ≡ entityInRange kind (now (entity .entry)) ⌝ }
 {
-    if 2 <= kind {
-        buffer::digits_in_range(entity, 1, 15)
-    } else {
-        buffer::digits_in_range(entity, 0, 0)
-    }
+    blocks::digits_in_range(entity, limit(2 <= kind, 1, 0), limit(2 <= kind, 15, 0))
 }
 
 // Whether the ASD or the GRN of a lookup is in range for its kind.
 fn asd_or_grn_in_range(kind: u8, digits: &[u8]) -> bool
     ensures { λ r. ⌜ r ≡ asdOrGrnInRange kind (now (digits .entry)) ⌝ }
 {
-    if kind == 0 {
-        buffer::digits_in_range(digits, 0, 0)
-    } else {
-        buffer::digits_in_range(digits, 0, 10)
-    }
+    blocks::digits_in_range(digits, 0, limit(kind == 0, 0, 10))
 }
 
 // Whether a lookup is in range.
@@ -121,7 +120,7 @@ pub fn number_in_range(body: &[u8]) -> bool
     if !is_class(body[0]) {
         return false;
     }
-    if !buffer::digits_in_range(&body[1..34], 0, 32) {
+    if !blocks::digits_in_range(&body[1..34], 0, 32) {
         return false;
     }
     lookup_in_range(&body[34..73])

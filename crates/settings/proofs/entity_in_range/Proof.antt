@@ -1,25 +1,31 @@
 -- The kind decides how many digits there may be.
-use mathlib.Core.Path.{_∙_, sym}
-use borrow.Author.Needs.{needs}
-use borrow.Author.Tests.{eq-eqb, ne-eqb, le-leb, lt-leb}
+use Prim.Native.Nat.{ℕ}
+use mathlib.Core.Bool.{Bool}
+use mathlib.Core.Path.{ap₂, _∙_}
+use lib.Dec.{leb}
+use Rattle.meaning.specs.Basics.{digitsInRange}
 use Rattle.meaning.specs.Settings.{entityInRange}
+use Rattle.settings.proofs.Answers.{chosen}
+use borrow.Author.Needs.{needs}
 use Rattle.settings.proofs.entity_in_range.Statement.{statement}
 use Rattle.settings.proofs.entity_in_range.Tie as tie
+
+limit-requires : tie.Need-limit-requires
+limit-requires c κs = search needs
+
+limit-requires-2 : tie.Need-limit-requires-2
+limit-requires-2 c κs = search needs
 
 digits-in-range-requires : tie.Need-digits-in-range-requires
 digits-in-range-requires c κs = search needs
 
-digits-in-range-requires-2 : tie.Need-digits-in-range-requires-2
-digits-in-range-requires-2 c κs = search needs
-
 returns : tie.Need-returns
 unfolding entityInRange
-returns c = c .digits-in-range .ensures ∙ sym (rw (le-leb 2 _ (c .before .if1 .taken)))
-
-returns-2 : tie.Need-returns-2
-unfolding entityInRange
-returns-2 c = c .digits-in-range2 .ensures ∙ sym (rw (lt-leb 2 _ (c .before .if1 .left)))
+returns c =
+    let a = c .before .before .before .before .args in
+    let test : ℕ → ℕ → Bool = λ lo hi. digitsInRange lo hi (a .entity .now) in
+    c .digits-in-range .ensures ∙ ap₂ test (c .before .before .limit .ensures) (c .before .limit2 .ensures) ∙ chosen test (leb 2 (a .kind)) 1 0 15 0
 
 pub entity-in-range-spec : {M : Type 1} → statement M
 entity-in-range-spec =
-    tie.close (tie.spec digits-in-range-requires digits-in-range-requires-2 returns returns-2)
+    tie.close (tie.spec limit-requires limit-requires-2 digits-in-range-requires returns)

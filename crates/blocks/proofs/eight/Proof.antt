@@ -1,0 +1,62 @@
+-- At i the number of the bytes from there to the eighth is made (`Read`).
+use Prim.Native.Nat.{_≤_}
+use native.Mathlib.Omega.{arith}
+use lib.ListN.{length}
+use borrow.Author.Needs.{needs}
+use Rattle.blocks.proofs.EndianLaws.{Read, read-none, read-room, read-more, read-all}
+use Rattle.blocks.proofs.eight.Statement.{statement}
+use Rattle.blocks.proofs.eight.Tie as tie
+
+abbrev Inv-loop : tie.InvT-loop
+Inv-loop s x₀ i₀ x i = (i ≤ 8) × (8 ≤ length s) × Read s i x
+
+abbrev μ-loop : tie.MeasureT-loop
+μ-loop s x₀ i₀ x i = i
+
+loop-holds : tie.Need-loop-holds Inv-loop μ-loop
+loop-holds c = (search needs, c .before .pre, read-none (c .before .args .s .now))
+
+sub-i : tie.Need-sub-i Inv-loop μ-loop
+sub-i c = search needs
+
+mul-x : tie.Need-mul-x Inv-loop μ-loop
+mul-x c = let l = c .before .loop in omega (arith, read-room (l .inv .2) (c .loop-test .taken) 0 (omega arith))
+
+shared-slice-read-wide : tie.Need-shared-slice-read-wide Inv-loop μ-loop
+shared-slice-read-wide c = search needs
+
+wide-requires : tie.Need-wide-requires Inv-loop μ-loop
+wide-requires c κs = search needs
+
+add-x : tie.Need-add-x Inv-loop μ-loop
+add-x c =
+    let l = c .before .before .before .loop in
+    omega (arith, read-room (l .inv .2) (c .before .before .loop-test .taken) (c .wide .result) (c .wide .ensures .small))
+
+loop-less : tie.Need-loop-less Inv-loop μ-loop
+loop-less c = search needs
+
+loop-again : tie.Need-loop-again Inv-loop μ-loop
+loop-again c =
+    let l = c .before .before .before .loop in
+    let g = read-more (l .inv .2) (c .before .before .loop-test .taken) (c .wide .result) (c .wide .ensures .small) (l .inv .1) (c .wide .ensures .is) in
+    (g .below, l .inv .1, g)
+
+returns : tie.Need-returns Inv-loop μ-loop
+returns c = let l = c .before .loop in read-all (l .inv .2) (omega (arith, c .loop-test .left))
+
+pub eight-spec : {M : Type 1} → statement M
+eight-spec =
+    tie.close
+    (tie.spec
+    Inv-loop
+    μ-loop
+    loop-holds
+    sub-i
+    mul-x
+    shared-slice-read-wide
+    wide-requires
+    add-x
+    loop-less
+    loop-again
+    returns)

@@ -1,0 +1,17 @@
+-- The places of a digit string behind its length byte: digits, and unused ones.
+use Prim.Native.Nat.{ℕ, zero, suc}
+use mathlib.Core.Bool.{Bool, true, _&&_}
+use mathlib.Core.List.{List, [], _∷_}
+use Rattle.meaning.specs.Basics.{isZero, isDigit}
+
+-- a digit at each of the first n places, and 0 from there on
+abbrev pub placesPass : ℕ → List ℕ → Bool
+placesPass n [] = true
+placesPass zero (x ∷ xs) = isZero x && placesPass zero xs
+placesPass (suc n) (x ∷ xs) = isDigit x && placesPass n xs
+
+-- the bits that w places may not have: the high four of each of the first n, and all from there on
+unfoldable pub masks : ℕ → ℕ → List ℕ
+masks n zero = []
+masks zero (suc w) = 255 ∷ masks zero w
+masks (suc n) (suc w) = 240 ∷ masks n w
