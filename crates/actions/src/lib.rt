@@ -52,14 +52,23 @@ pub fn no_codes(codes: &[u8]) -> bool
     code_at(codes, 0) == 0
 }
 
-// The value that a conditioning code sets, by its formatting code; 0 for none.
+// The value that a conditioning code sets, by its formatting code; 0 for none. With a number for each code it is a table when compiled.
 pub fn value_of(code: u8) -> u8
     ensures { λ r. ⌜ r ≡ valueOf code ⌝ }
 {
     match code {
-        2..=6 => code - 1,
-        7..=10 => code,
-        11..=13 => code - 8,
+        2 => 1,
+        3 => 2,
+        4 => 3,
+        5 => 4,
+        6 => 5,
+        7 => 7,
+        8 => 8,
+        9 => 9,
+        10 => 10,
+        11 => 3,
+        12 => 4,
+        13 => 5,
         14 => 6,
         15 => 1,
         _ => 0,
