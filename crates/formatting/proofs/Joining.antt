@@ -1,15 +1,16 @@
 -- Joined values: what is left of a list of codes decides. And which values the outgoing digits and the conditioned number join.
-use Prim.Native.Nat.{ℕ, zero, suc, _+_, _-_, _*_, _≤_}
-use mathlib.Core.Path.{_≡_, refl, sym, ap, _∙_}
+use Prim.Native.Nat.{ℕ, zero, suc, _+_, _-_, _≤_, _<_}
+use mathlib.Core.Path.{_≡_, refl, sym, ap, subst, _∙_}
 use mathlib.Core.Bool.{Bool, true, false, _||_}
 use mathlib.Core.List.{List, [], _∷_, _++_, append-assoc, append-nil}
+use native.Mathlib.Nat.{sub-zero}
 use native.Mathlib.Omega.{arith}
-use lib.ListN.{length, take, drop, getD, length-append, length-drop, take-append-drop}
-use lib.Seq.{take-all, take-at, drop-at, length-take-le, drop-drop, drop-length}
+use lib.ListN.{length, take, drop, getD, length-append}
+use lib.Seq.{take-append-add, length-take-le, drop-length}
 use lib.Dec.{T, leb, eqb}
-use borrow.Author.Tests.{eq-eqb, leb-false}
-use borrow.Rule.Slice.PartMut.{putMid, midOf, post-is}
-use Rattle.meaning.specs.Basics.{if_then_else_, contains}
+use borrow.Author.Tests.{eq-eqb, le-leb, lt-leb, leb-true, leb-false}
+use borrow.Rule.Slice.PartMut.{putMid, midOf, post-is, same-len-mid}
+use Rattle.meaning.specs.Basics.{if_then_else_, contains, writtenOver}
 use Rattle.meaning.specs.Settings.{Settings, Lookup, settingsOf, lookupOf}
 use Rattle.meaning.specs.Actions.{RN, ZN, DN, CA, casOf, codesOf}
 use Rattle.meaning.specs.Groups.{isSet}
@@ -19,7 +20,7 @@ use Rattle.meaning.proofs.Tests.{is-true}
 use Rattle.services.specs.declared.Served.{Served}
 use Rattle.services.specs.Stages.{stageOf, stageAfter, ServedAs}
 use Rattle.formatting.specs.Values.{valueSent}
-use Rattle.formatting.specs.Joins.{outgoing, conditioned, conditionedCodes, Writes}
+use Rattle.formatting.specs.Joins.{outgoing, conditioned, conditionedCodes, Writes, JoinsInto}
 
 -- WHICH VALUES
 
@@ -98,64 +99,72 @@ conditioned-is settings lookup digits cas prefix served codes e =
 
 -- HOW A LOOP OVER THE CODES GOES ON
 
--- the lengths before place i, of values that have no more than 32 digits
-pub record Summing (v : ℕ → List ℕ) (fas : List ℕ) (i sum : ℕ) : Type 0 where
-  pub most : sum ≤ 32 * i
-  pub rest : sum + length (join v (codesOf (drop i fas))) ≡ length (join v (codesOf fas))
-
-pub summing-none : (v : ℕ → List ℕ) (fas : List ℕ) → Summing v fas 0 0
-summing-none v fas = record { most = omega arith; rest = omega arith }
-
-module _ {v : ℕ → List ℕ} {fas : List ℕ} {i sum : ℕ} (g : Summing v fas i sum) where
-  pub summed : codesOf (drop i fas) ≡ [] → sum ≡ length (join v (codesOf fas))
-  summed e = omega (arith, rw e at (g .rest))
-
-  pub summing-more : {f : ℕ} (n : ℕ) → codesOf (drop i fas) ≡ f ∷ codesOf (drop (i + 1) fas) → n ≡ length (v f) → n ≤ 32 → Summing v fas (i + 1) (sum + n)
-  summing-more {f} n e k h =
-      let l = length-append (v f) (join v (codesOf (drop (i + 1) fas))) in
-      record { most = omega (arith, g .most); rest = omega (arith, rw e at (g .rest), l) }
-
--- at `end`, the values before place i are written, and the bytes behind them are as they were
-pub record Joining (v : ℕ → List ℕ) (fas old : List ℕ) (i end : ℕ) (out : List ℕ) : Type 0 where
-  pub inside : end ≤ length old
-  pub long : length out ≡ length old
+-- at `end`, the values before place i are written
+pub record Joining (v : ℕ → List ℕ) (fas : List ℕ) (i end : ℕ) (out : List ℕ) : Type 0 where
+  pub inside : end ≤ length out
   pub written : take end out ++ join v (codesOf (drop i fas)) ≡ join v (codesOf fas)
-  pub behind : drop end out ≡ drop end old
 
-pub joining-none : (v : ℕ → List ℕ) (fas old : List ℕ) → Joining v fas old 0 0 old
-joining-none v fas old = record { inside = omega arith; long = refl; written = refl; behind = refl }
+pub joining-none : (v : ℕ → List ℕ) (fas out : List ℕ) → Joining v fas 0 0 out
+joining-none v fas out = record { inside = omega arith; written = refl }
 
-module _ {v : ℕ → List ℕ} {fas old out : List ℕ} {i end : ℕ} (g : Joining v fas old i end out) where
+module _ {v : ℕ → List ℕ} {fas out : List ℕ} {i end : ℕ} (g : Joining v fas i end out) (most : ℕ) where
   front-long : length (take end out) ≡ end
-  front-long = length-take-le end out (omega (arith, g .inside, g .long))
+  front-long = length-take-le end out (g .inside)
 
-  pub joined : codesOf (drop i fas) ≡ [] → Writes (join v (codesOf fas)) old out end
-  joined e =
+  -- none is left
+  pub joined : codesOf (drop i fas) ≡ [] → end ≤ most → JoinsInto (join v (codesOf fas)) most out end
+  joined e h =
       let t : take end out ≡ join v (codesOf fas) = sym (append-nil (take end out)) ∙ (rw e at (g .written)) in
       let l : length (join v (codesOf fas)) ≡ end = sym (ap length t) ∙ front-long in
-      record { written = sym (take-append-drop end out) ∙ rw (t, g .behind, l); count = sym l }
+      record { count = rw (l, le-leb end most h); digits = λ k. t }
 
-  module _ {f : ℕ} (e : codesOf (drop i fas) ≡ f ∷ codesOf (drop (i + 1) fas)) where
+  module _ {f : ℕ} (e : codesOf (drop i fas) ≡ f ∷ codesOf (drop (i + 1) fas)) (n : ℕ) (n-is : n ≡ length (v f)) where
     next : take end out ++ (v f ++ join v (codesOf (drop (i + 1) fas))) ≡ join v (codesOf fas)
     next = rw e at (g .written)
 
-    pub joining-room : length (join v (codesOf fas)) ≤ length old → end + length (v f) ≤ length out
-    joining-room room = omega (arith, simp (length-append, front-long) at (ap length next), g .long)
+    -- the next value is one too many
+    pub joined-long : most < end + n → (exit : List ℕ) → JoinsInto (join v (codesOf fas)) most exit (most + 1)
+    joined-long h exit =
+        let l : most < length (join v (codesOf fas)) = omega (arith, simp (length-append, front-long) at (ap length next)) in
+        record { count = rw (lt-leb (length (join v (codesOf fas))) most l); digits = λ k. absurd (omega arith) }
 
     -- the value directly behind those before it
-    pub joining-more : {last : List ℕ} {n : ℕ} → length (join v (codesOf fas)) ≤ length old → Writes (v f) (midOf end (length out - end) out) last n
-        → Joining v fas old (i + 1) (end + n) (putMid end (length out - end) out last)
-    joining-more {last} {n} room w =
-        let h : end + n ≤ length out = rw (w .count) (joining-room room) in
-        let p : List ℕ = take end out ++ v f in
-        let k : length p ≡ end + n = length-append (take end out) (v f) ∙ rw (front-long, w .count) in
-        let l : length (drop end out) ≡ length out - end = length-drop end out in
-        let m : take (length out - end) (drop end out) ≡ drop end out = take-all (length out - end) (drop end out) (omega arith) in
-        let z : drop (length out - end) (drop end out) ≡ [] = post-is end (length out) out (omega arith) ∙ drop-length out in
-        let s : putMid end (length out - end) out last ≡ p ++ drop (end + n) out = rw (z, append-nil, w .written, m, drop-drop, w .count, append-assoc) in
+    pub joining-more : (last : List ℕ) → end + n ≤ length out → length last ≡ length (midOf end (length out - end) out) → take n last ≡ v f
+        → Joining v fas (i + 1) (end + n) (putMid end (length out - end) out last)
+    joining-more last room long t =
+        let z : drop (length out - end) (drop end out) ≡ [] = post-is end (length out) out (g .inside) ∙ drop-length out in
+        let s : putMid end (length out - end) out last ≡ take end out ++ last = rw (z, append-nil) in
+        let k : take (end + n) (take end out ++ last) ≡ take end out ++ take n last =
+        ap (λ (m : ℕ). take (m + n) (take end out ++ last)) (sym front-long) ∙ take-append-add (take end out) last n in
         record {
-          inside = omega (arith, g .long);
-          long = rw s (omega (arith, length-append p (drop (end + n) out), length-drop (end + n) out, g .long));
-          written = rw (s, take-at p (drop (end + n) out) (end + n) k, append-assoc) next;
-          behind = rw (s, drop-at p (drop (end + n) out) (end + n) k, ← drop-drop n end out, g .behind) (drop-drop n end old);
+          inside = rw (same-len-mid end (length out - end) out last long) room;
+          written = rw (s, k, t, append-assoc) next;
         }
+
+pub joins-as : {ds es exit : List ℕ} {most r : ℕ} → ds ≡ es → JoinsInto ds most exit r → JoinsInto es most exit r
+joins-as {ds} {es} {exit} {most} {r} e j = subst (λ (x : List ℕ). JoinsInto x most exit r) e j
+
+-- whether they are too many is seen from the count
+joined-tests : (b : Bool) (n most r : ℕ) → r ≡ (if b then n else most + 1) → r ≤ most → b ≡ true
+joined-tests true n most r e h = refl
+joined-tests false n most r e h = absurd (omega arith)
+
+module _ {ds exit : List ℕ} {most r : ℕ} (j : JoinsInto ds most exit r) where
+  pub joined-few : r ≤ most → length ds ≤ most
+  joined-few h = leb-true (length ds) most (joined-tests (leb (length ds) most) (length ds) most r (j .count) h)
+
+  pub joined-many : most < r → most < length ds
+  joined-many h = leb-false (length ds) most (go (leb (length ds) most) refl)
+    where
+      go : (b : Bool) → leb (length ds) most ≡ b → leb (length ds) most ≡ false
+      go true e = let f : r ≡ length ds = j .count ∙ rw e in absurd (omega (arith, leb-true (length ds) most e))
+      go false e = e
+
+-- where the digits are not too many
+module _ {ds exit : List ℕ} {most r : ℕ} (j : JoinsInto ds most exit r) (h : length ds ≤ most) where
+  pub joined-count : r ≡ length ds
+  joined-count = j .count ∙ rw (le-leb (length ds) most h)
+
+  -- they are copied to the front of another buffer
+  pub joined-copied : (out after : List ℕ) → after ≡ writtenOver (take (r - 0) exit) out → Writes ds out after r
+  joined-copied out after e = record { written = e ∙ rw (sub-zero, j .digits h); count = joined-count }

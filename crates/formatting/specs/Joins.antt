@@ -1,9 +1,10 @@
 -- The outgoing digits and the conditioned number as joined values, and what their writers promise.
-use Prim.Native.Nat.{ℕ, _≤_}
+use Prim.Native.Nat.{ℕ, _+_, _≤_}
 use mathlib.Core.Path.{_≡_}
 use mathlib.Core.Bool.{false}
 use mathlib.Core.List.{List, [], _∷_}
-use lib.ListN.{length}
+use lib.ListN.{length, take}
+use lib.Dec.{leb}
 use Rattle.meaning.specs.Basics.{if_then_else_, writtenOver}
 use Rattle.meaning.specs.Settings.{settingsOf, lookupOf}
 use Rattle.meaning.specs.Actions.{CC, AC, SN, DN, ZN, CA, casOf, codesOf}
@@ -12,6 +13,7 @@ use Rattle.meaning.specs.Conditioning.{short, valueFrom, conditionedFrom}
 use Rattle.meaning.specs.Services.{valueToSend, join}
 use Rattle.services.specs.declared.Served.{Served}
 use Rattle.services.specs.Stages.{stageOf}
+use Rattle.formatting.specs.Sources.{settingsIn, lookupIn, digitsIn}
 
 -- document 01's outgoing digits: "the FA values joined in order", by the stage that these FAs make
 unfoldable pub outgoing : List ℕ → List ℕ → List ℕ → List ℕ → ℕ → Served → List ℕ → List ℕ
@@ -28,17 +30,22 @@ conditioned settings digits cas prefix = conditionedFrom (casOf cas) (valueFrom 
 unfoldable pub conditionedCodes : List CA → List ℕ
 conditionedCodes xs = if isSet ZN xs then (ZN ∷ []) else if isSet DN xs then (CC ∷ DN ∷ []) else (CC ∷ AC ∷ SN ∷ [])
 
+-- the outgoing digits for the number, the lookup and the settings that a source has
+abbrev pub outgoingIn : List ℕ → ℕ → List ℕ → ℕ → Served → List ℕ → List ℕ
+outgoingIn source n cas prefix served fas = outgoing (settingsIn source) (lookupIn source) (digitsIn n source) cas prefix served fas
+
 -- the settings, and digits that are enough for the conditioning actions
 pub record Conditionable (settings digits cas : List ℕ) (prefix : ℕ) : Type 0 where
   pub settings-long : length settings ≡ 36
-  pub enough : short prefix (length digits) (casOf cas) ≡ false
-
--- few enough values and digits that their lengths may be summed
-pub record Few (digits fas : List ℕ) : Type 0 where
   pub digits-few : length digits ≤ 32
-  pub fas-few : length fas ≤ 12
+  pub enough : short prefix (length digits) (casOf cas) ≡ false
 
 -- the digits ds are written at the front of the buffer `entry`, and r is how many they are
 pub record Writes (ds entry exit : List ℕ) (r : ℕ) : Type 0 where
   pub written : exit ≡ writtenOver ds entry
   pub count : r ≡ length ds
+
+-- r is how many the digits ds are, or one more than `most` where they are more; they stand at the front of a buffer where they are not
+pub record JoinsInto (ds : List ℕ) (most : ℕ) (exit : List ℕ) (r : ℕ) : Type 0 where
+  pub count : r ≡ (if leb (length ds) most then length ds else most + 1)
+  pub digits : length ds ≤ most → take r exit ≡ ds

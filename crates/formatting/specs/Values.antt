@@ -1,27 +1,16 @@
 -- The values that formatting actions send, over the bytes of the settings and of a lookup.
 use Prim.Native.Nat.{ℕ, _-_}
-use mathlib.Core.Path.{_≡_}
-use mathlib.Core.Bool.{Bool, false, _&&_}
+use mathlib.Core.Bool.{Bool, _&&_}
 use mathlib.Core.List.{List, [], _∷_}
-use lib.ListN.{length, getD}
+use lib.ListN.{getD}
 use lib.Dec.{eqb}
 use Rattle.meaning.specs.Basics.{if_then_else_, digitsOf}
 use Rattle.meaning.specs.Settings.{settingsOf, lookupOf}
 use Rattle.meaning.specs.Actions.{RN, casOf}
-use Rattle.meaning.specs.Conditioning.{short, valueFrom}
+use Rattle.meaning.specs.Conditioning.{valueFrom}
 use Rattle.meaning.specs.Services.{Stage, atStart, rnSet, valueToSend}
 use Rattle.services.specs.declared.Served.{Served}
 use Rattle.services.specs.Stages.{stageOf}
-
--- the settings and a lookup, whole
-pub record Looked (settings lookup : List ℕ) : Type 0 where
-  pub settings-long : length settings ≡ 36
-  pub lookup-long : length lookup ≡ 39
-
--- and digits that are enough for the conditioning actions
-pub record Formattable (settings lookup digits cas : List ℕ) (prefix : ℕ) : Type 0 where
-  pub looked : Looked settings lookup
-  pub enough : short prefix (length digits) (casOf cas) ≡ false
 
 abbrev pub digitsIf : Bool → List ℕ → List ℕ
 digitsIf set s = if set then digitsOf s else []

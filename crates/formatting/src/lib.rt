@@ -1,21 +1,25 @@
-// Formatting: the value that each formatting action sends, the outgoing digits, and the conditioned number.
+// Formatting: where the value of each formatting action lies, the outgoing digits, and the conditioned number.
 use actions::code_at;
 use actions::has_code;
 use actions::is_set;
+use blocks::copy_blocks;
+use blocks::copy_sixteen;
 use buffer::copy;
 use buffer::wide;
 use conditioning::span_of;
+use meaning::Span;
 use services::Served;
 use services::unserved;
 ghost use mathlib.Core.Path.{_≡_};
-ghost use Prim.Native.Nat.{_≤_, _<_};
-ghost use lib.ListN.{length};
-ghost use Rattle.meaning.specs.Basics.{digitsOf};
+ghost use Prim.Native.Nat.{_+_, _≤_, _<_};
+ghost use lib.ListN.{length, take};
+ghost use Rattle.meaning.specs.Basics.{part, digitsOf};
 ghost use Rattle.meaning.specs.Settings.{settingsOf};
 ghost use Rattle.meaning.specs.Actions.{casOf, codesOf};
 ghost use Rattle.meaning.specs.Conditioning.{valueFrom};
-ghost use Rattle.formatting.specs.Values.{digitsIf, rnOf, spOf, serviceValue, valueSent, Looked, Formattable};
-ghost use Rattle.formatting.specs.Joins.{outgoing, conditioned, conditionedCodes, Conditionable, Few, Writes};
+ghost use Rattle.formatting.specs.Values.{digitsIf, rnOf, spOf, serviceValue};
+ghost use Rattle.formatting.specs.Sources.{sourceOf, settingsIn, lookupIn, digitsIn, valueIn, Carries, Held, Taking, Lies};
+ghost use Rattle.formatting.specs.Joins.{conditioned, conditionedCodes, outgoingIn, Conditionable, Writes, JoinsInto};
 
 const CC: u8 = 1;
 
@@ -45,193 +49,192 @@ const LAST_CONDITIONED: u8 = 10;
 // The conditioning code CCDEF.
 const CCDEF: u8 = 15;
 
-// The digits of a digit string, its length byte and then its full width.
-fn digits_of(s: &[u8]) -> &[u8]
-    ensures { λ r. ⌜ now r ≡ digitsOf (now (s .entry)) ⌝ }
+// A SOURCE: the body of a number and, behind it, the settings
+
+// The bytes of a source: behind the settings, room for a block that is taken whole.
+pub const SOURCE_BYTES: usize = 144;
+
+// Where a source has the digits of the number, the kind of its lookup, and each string of the lookup and of the settings.
+const DIGITS: usize = 2;
+
+const KIND: usize = 34;
+
+const ENTITY: usize = 35;
+
+const ASD_STRING: usize = 51;
+
+const GRN_STRING: usize = 62;
+
+const SETTINGS: usize = 73;
+
+// The bytes of the settings.
+const SETTINGS_BYTES: usize = 36;
+
+const COUNTRY: usize = 73;
+
+const DFLTRN: usize = 77;
+
+const DELIMITER_A_STRING: usize = 93;
+
+const DELIMITER_B_STRING: usize = 99;
+
+// Makes the source of a number's values.
+pub fn fill_source(settings: &[u8], body: &[u8], source: &mut [u8])
+    requires { ⌜ (length (now settings) ≡ 36) × (length (now body) ≡ 73) × (length (now source) ≡ 144) ⌝ }
+    ensures { λ _. ⌜ now (source .exit) ≡ sourceOf (now (settings .entry)) (now (body .entry)) (now (source .entry)) ⌝ }
 {
-    if s.len() == 0 {
-        return &s[0..0];
-    }
-    let n = wide(s[0]);
-    let width = s.len() - 1;
-    if width < n {
-        return &s[1..];
-    }
-    let e = n + 1;
-    &s[1..e]
+    copy_blocks(source, &body[0..SETTINGS]);
+    copy_blocks(&mut source[SETTINGS..], &settings[0..SETTINGS_BYTES]);
 }
 
-// The digits of a digit string where it is set, else none.
-fn digits_if(set: bool, s: &[u8]) -> &[u8]
-    ensures { λ r. ⌜ now r ≡ digitsIf set (now (s .entry)) ⌝ }
+// WHERE A VALUE LIES
+
+// The digits of a digit string of so many places.
+fn string_at(source: &[u8], at: usize, width: usize) -> Span
+    requires { ⌜ (at + width < length (now source)) × (at ≤ 99) × (width ≤ 32) ⌝ }
+    ensures { λ r. ⌜ Lies (digitsOf (part at (width + 1) (now (source .entry)))) (now (source .entry)) r ⌝ }
+{
+    let n = wide(source[at]);
+    if width < n {
+        return Span {
+            start: at + 1,
+            count: width,
+        };
+    }
+    Span {
+        start: at + 1,
+        count: n,
+    }
+}
+
+// The same where it is set, else none.
+fn string_if(set: bool, source: &[u8], at: usize, width: usize) -> Span
+    requires { ⌜ (at + width < length (now source)) × (at ≤ 99) × (width ≤ 32) ⌝ }
+    ensures { λ r. ⌜ Lies (digitsIf set (part at (width + 1) (now (source .entry)))) (now (source .entry)) r ⌝ }
 {
     if set {
-        return digits_of(s);
+        return string_at(source, at, width);
     }
-    &s[0..0]
+    Span { start: 0, count: 0 }
 }
 
 // RN where CDPNNP was carried out: the entity for kind 2, DFLTRN for kind 3.
-fn routing_number<'a>(settings: &'a [u8], lookup: &'a [u8], ported: bool) -> &'a [u8]
-    requires { ⌜ Looked (now settings) (now lookup) ⌝ }
-    ensures { λ r. ⌜ now r ≡ rnOf (now (settings .entry)) (now (lookup .entry)) ported ⌝ }
+fn routing_number(source: &[u8], ported: bool) -> Span
+    requires { ⌜ length (now source) ≡ 144 ⌝ }
+    ensures { λ r. ⌜ Lies (rnOf (settingsIn (now (source .entry))) (lookupIn (now (source .entry))) ported) (now (source .entry)) r ⌝ }
 {
-    let kind = lookup[0];
+    let kind = source[KIND];
     if kind == 2 {
-        return digits_if(ported, &lookup[1..17]);
+        return string_if(ported, source, ENTITY, 15);
     }
     if kind == 3 {
-        return digits_if(ported, &settings[4..20]);
+        return string_if(ported, source, DFLTRN, 15);
     }
-    &lookup[0..0]
+    Span { start: 0, count: 0 }
 }
 
 // SP where CDPNNP was carried out: the entity for kind 3.
-fn service_provider<'a>(lookup: &'a [u8], ported: bool) -> &'a [u8]
-    requires { ⌜ length (now lookup) ≡ 39 ⌝ }
-    ensures { λ r. ⌜ now r ≡ spOf (now (lookup .entry)) ported ⌝ }
+fn service_provider(source: &[u8], ported: bool) -> Span
+    requires { ⌜ length (now source) ≡ 144 ⌝ }
+    ensures { λ r. ⌜ Lies (spOf (lookupIn (now (source .entry))) ported) (now (source .entry)) r ⌝ }
 {
-    if lookup[0] == 3 {
-        return digits_if(ported, &lookup[1..17]);
+    if source[KIND] == 3 {
+        return string_if(ported, source, ENTITY, 15);
     }
-    &lookup[0..0]
+    Span { start: 0, count: 0 }
 }
 
 // The value of a formatting action behind those that conditioning sets.
-fn service_value<'a>(settings: &'a [u8], lookup: &'a [u8], served: Served, f: u8) -> &'a [u8]
-    requires { ⌜ Looked (now settings) (now lookup) × (10 < f) ⌝ }
-    ensures { λ r. ⌜ now r ≡ serviceValue (now (settings .entry)) (now (lookup .entry)) served f ⌝ }
+fn service_value(source: &[u8], served: Served, f: u8) -> Span
+    requires { ⌜ (length (now source) ≡ 144) × (10 < f) ⌝ }
+    ensures { λ r. ⌜ Lies (serviceValue (settingsIn (now (source .entry))) (lookupIn (now (source .entry))) served f) (now (source .entry)) r ⌝ }
 {
     match f {
-        RN => routing_number(settings, lookup, served.ported),
-        SP => service_provider(lookup, served.ported),
-        ASD => digits_if(served.asd, &lookup[17..28]),
-        GRN => digits_if(served.grn, &lookup[28..39]),
-        DELIMITER_A => digits_of(&settings[20..26]),
-        DELIMITER_B => digits_of(&settings[26..32]),
-        _ => &settings[0..0],
+        RN => routing_number(source, served.ported),
+        SP => service_provider(source, served.ported),
+        ASD => string_if(served.asd, source, ASD_STRING, 10),
+        GRN => string_if(served.grn, source, GRN_STRING, 10),
+        DELIMITER_A => string_at(source, DELIMITER_A_STRING, 5),
+        DELIMITER_B => string_at(source, DELIMITER_B_STRING, 5),
+        _ => Span { start: 0, count: 0 },
     }
 }
 
-// A value as conditioning sets it: CC by CCDEF the default country code, else the stretch of the number that it covers.
-pub fn conditioned_value<'a>(
-    settings: &'a [u8],
-    digits: &'a [u8],
-    cas: &[u8],
-    prefix: usize,
-    v: u8,
-) -> &'a [u8]
-    requires { ⌜ Conditionable (now settings) (now digits) (now cas) prefix ⌝ }
-    ensures { λ r. ⌜ now r ≡ valueFrom (settingsOf (now (settings .entry)) .country) prefix (now (digits .entry)) (casOf (now (cas .entry))) v ⌝ }
+// A value as conditioning sets it, of a number of n digits: CC by CCDEF the default country code, else the stretch of the number that it covers.
+fn conditioned_value(source: &[u8], n: usize, cas: &[u8], prefix: usize, v: u8) -> Span
+    requires { ⌜ Taking (now source) n (now cas) prefix ⌝ }
+    ensures { λ r. ⌜ Lies (valueFrom (settingsOf (settingsIn (now (source .entry))) .country) prefix (digitsIn n (now (source .entry))) (casOf (now (cas .entry))) v) (now (source .entry)) r ⌝ }
 {
     if v == CC && has_code(cas, CCDEF) {
-        return digits_of(&settings[0..4]);
+        return string_at(source, COUNTRY, 3);
     }
-    let s = span_of(cas, prefix, digits.len(), v);
-    let start = s.start;
-    let end = start + s.count;
-    &digits[start..end]
+    let s = span_of(cas, prefix, n, v);
+    Span {
+        start: DIGITS + s.start,
+        count: s.count,
+    }
 }
 
-// The value that a formatting action sends, as a part of what it is taken from.
-pub fn value_to_send<'a>(
-    settings: &'a [u8],
-    lookup: &'a [u8],
-    digits: &'a [u8],
-    cas: &[u8],
-    prefix: usize,
-    served: Served,
-    f: u8,
-) -> &'a [u8]
-    requires { ⌜ Formattable (now settings) (now lookup) (now digits) (now cas) prefix ⌝ }
-    ensures { λ r. ⌜ now r ≡ valueSent (now (settings .entry)) (now (lookup .entry)) (now (digits .entry)) (now (cas .entry)) prefix served f ⌝ }
+// The value that a formatting action sends.
+fn value_to_send(source: &[u8], n: usize, cas: &[u8], prefix: usize, served: Served, f: u8) -> Span
+    requires { ⌜ Taking (now source) n (now cas) prefix ⌝ }
+    ensures { λ r. ⌜ Lies (valueIn (now (source .entry)) n (now (cas .entry)) prefix served f) (now (source .entry)) r ⌝ }
 {
     if f <= LAST_CONDITIONED {
-        return conditioned_value(settings, digits, cas, prefix, f);
+        return conditioned_value(source, n, cas, prefix, f);
     }
-    service_value(settings, lookup, served, f)
+    service_value(source, served, f)
 }
 
-// One formatting step: the value at the front of what it is given of the outgoing buffer.
-fn put_value<'a>(
-    settings: &'a [u8],
-    lookup: &'a [u8],
-    digits: &'a [u8],
-    cas: &[u8],
-    prefix: usize,
-    served: Served,
-    f: u8,
-    out: &mut [u8],
-) -> usize
-    requires { ⌜ Formattable (now settings) (now lookup) (now digits) (now cas) prefix × (length (valueSent (now settings) (now lookup) (now digits) (now cas) prefix served f) ≤ length (now out)) ⌝ }
-    ensures { λ r. ⌜ Writes (valueSent (now (settings .entry)) (now (lookup .entry)) (now (digits .entry)) (now (cas .entry)) prefix served f) (now (out .entry)) (now (out .exit)) r ⌝ }
+// JOINING
+
+// One formatting step: the value at the front of what it is given of the outgoing buffer. Whole blocks are copied, so what is behind the value there is not kept.
+fn put_value(source: &[u8], value: Span, out: &mut [u8])
+    requires { ⌜ Held (now source) value × (32 ≤ length (now out)) ⌝ }
+    ensures { λ _. ⌜ take (value .count) (now (out .exit)) ≡ part (value .start) (value .count) (now (source .entry)) ⌝ }
 {
-    let value = value_to_send(settings, lookup, digits, cas, prefix, served, f);
-    copy(out, value);
-    value.len()
+    let start = value.start;
+    copy_sixteen(out, &source[start..]);
+    if 16 < value.count {
+        let second = start + 16;
+        copy_sixteen(&mut out[16..], &source[second..]);
+    }
 }
 
-// How many outgoing digits the formatting actions make.
-pub fn joined_length<'a>(
-    settings: &'a [u8],
-    lookup: &'a [u8],
-    digits: &'a [u8],
+// The values of the formatting actions, each directly behind the one before, at the front of a buffer that has room for `most` digits and a block; one more than
+// `most` where they have more.
+pub fn join_values(
+    source: &[u8],
+    n: usize,
     cas: &[u8],
     prefix: usize,
     served: Served,
     fas: &[u8],
-) -> usize
-    requires { ⌜ Formattable (now settings) (now lookup) (now digits) (now cas) prefix × Few (now digits) (now fas) ⌝ }
-    ensures { λ r. ⌜ r ≡ length (outgoing (now (settings .entry)) (now (lookup .entry)) (now (digits .entry)) (now (cas .entry)) prefix served (now (fas .entry))) ⌝ }
-{
-    let mut sum: usize = 0;
-    let mut i = 0;
-    loop {
-        let f = code_at(fas, i);
-        if f == 0 {
-            return sum;
-        }
-        let value = value_to_send(settings, lookup, digits, cas, prefix, served, f);
-        sum += value.len();
-        i += 1;
-    }
-}
-
-// The outgoing digits at the front of the buffer, each value directly behind the one before; the bytes behind them stay.
-pub fn write_joined<'a>(
-    settings: &'a [u8],
-    lookup: &'a [u8],
-    digits: &'a [u8],
-    cas: &[u8],
-    prefix: usize,
-    served: Served,
-    fas: &[u8],
+    most: usize,
     out: &mut [u8],
 ) -> usize
-    requires { ⌜ Formattable (now settings) (now lookup) (now digits) (now cas) prefix × (length (outgoing (now settings) (now lookup) (now digits) (now cas) prefix served (now fas)) ≤ length (now out)) ⌝ }
-    ensures { λ r. ⌜ Writes (outgoing (now (settings .entry)) (now (lookup .entry)) (now (digits .entry)) (now (cas .entry)) prefix served (now (fas .entry))) (now (out .entry)) (now (out .exit)) r ⌝ }
+    requires { ⌜ Taking (now source) n (now cas) prefix × (most ≤ 35) × (most + 32 ≤ length (now out)) ⌝ }
+    ensures { λ r. ⌜ JoinsInto (outgoingIn (now (source .entry)) n (now (cas .entry)) prefix served (now (fas .entry))) most (now (out .exit)) r ⌝ }
 {
-    let mut end = 0;
+    let mut end: usize = 0;
     let mut i = 0;
     loop {
         let f = code_at(fas, i);
         if f == 0 {
             return end;
         }
-        let n = put_value(
-            settings,
-            lookup,
-            digits,
-            cas,
-            prefix,
-            served,
-            f,
-            &mut out[end..],
-        );
-        end += n;
+        let value = value_to_send(source, n, cas, prefix, served, f);
+        let count = value.count;
+        if most < end + count {
+            return most + 1;
+        }
+        put_value(source, value, &mut out[end..]);
+        end += count;
         i += 1;
     }
 }
+
+// THE CONDITIONED NUMBER
 
 // The values that the conditioned number joins, by the international format that stands; 0 behind the last.
 fn conditioned_codes(cas: &[u8]) -> [u8; 3]
@@ -246,48 +249,55 @@ fn conditioned_codes(cas: &[u8]) -> [u8; 3]
     [CC, AC, SN]
 }
 
-// How many digits the conditioned number has.
-pub fn conditioned_length<'a>(
-    settings: &'a [u8],
-    digits: &'a [u8],
-    cas: &[u8],
-    prefix: usize,
-) -> usize
-    requires { ⌜ Conditionable (now settings) (now digits) (now cas) prefix × (length (now digits) ≤ 32) ⌝ }
-    ensures { λ r. ⌜ r ≡ length (conditioned (now (settings .entry)) (now (digits .entry)) (now (cas .entry)) prefix) ⌝ }
+// Makes a source of digits alone, without a lookup.
+fn fill_source_of_digits(settings: &[u8], digits: &[u8], source: &mut [u8])
+    requires { ⌜ (length (now settings) ≡ 36) × (length (now digits) ≤ 32) × (length (now source) ≡ 144) ⌝ }
+    ensures { λ _. ⌜ Carries (now (settings .entry)) (now (digits .entry)) (now (source .exit)) ⌝ }
 {
-    let codes = conditioned_codes(cas);
-    joined_length(
-        settings,
-        &[0u8; 39],
-        digits,
-        cas,
-        prefix,
-        unserved([0u8; 8]),
-        &codes,
-    )
+    let mut body = [0u8; 73];
+    copy(&mut body[DIGITS..], digits);
+    fill_source(settings, &body, source);
 }
 
-// The conditioned number at the front of the buffer; the bytes behind it stay. No lookup is asked for.
-pub fn write_conditioned<'a>(
-    settings: &'a [u8],
-    digits: &'a [u8],
+// The conditioned number at the front of a buffer that has room for 35 digits and a block.
+fn join_conditioned(
+    settings: &[u8],
+    digits: &[u8],
     cas: &[u8],
     prefix: usize,
     out: &mut [u8],
 ) -> usize
-    requires { ⌜ Conditionable (now settings) (now digits) (now cas) prefix × (length (conditioned (now settings) (now digits) (now cas) prefix) ≤ length (now out)) ⌝ }
-    ensures { λ r. ⌜ Writes (conditioned (now (settings .entry)) (now (digits .entry)) (now (cas .entry)) prefix) (now (out .entry)) (now (out .exit)) r ⌝ }
+    requires { ⌜ Conditionable (now settings) (now digits) (now cas) prefix × (67 ≤ length (now out)) ⌝ }
+    ensures { λ r. ⌜ JoinsInto (conditioned (now (settings .entry)) (now (digits .entry)) (now (cas .entry)) prefix) 35 (now (out .exit)) r ⌝ }
 {
+    let mut source = [0u8; SOURCE_BYTES];
+    fill_source_of_digits(settings, digits, &mut source);
     let codes = conditioned_codes(cas);
-    write_joined(
-        settings,
-        &[0u8; 39],
-        digits,
+    join_values(
+        &source,
+        digits.len(),
         cas,
         prefix,
         unserved([0u8; 8]),
         &codes,
+        35,
         out,
     )
+}
+
+// The conditioned number at the front of the buffer; the bytes behind it stay. No lookup is asked for.
+pub fn write_conditioned(
+    settings: &[u8],
+    digits: &[u8],
+    cas: &[u8],
+    prefix: usize,
+    out: &mut [u8],
+) -> usize
+    requires { ⌜ Conditionable (now settings) (now digits) (now cas) prefix × (length (conditioned (now settings) (now digits) (now cas) prefix) ≤ 35) × (35 ≤ length (now out)) ⌝ }
+    ensures { λ r. ⌜ Writes (conditioned (now (settings .entry)) (now (digits .entry)) (now (cas .entry)) prefix) (now (out .entry)) (now (out .exit)) r ⌝ }
+{
+    let mut number = [0u8; 67];
+    let n = join_conditioned(settings, digits, cas, prefix, &mut number);
+    copy(out, &number[0..n]);
+    n
 }

@@ -7,7 +7,7 @@ use mathlib.Core.List.{List, [], _∷_, _++_, List·Memᴰ, List·Memᴰ·head, 
 use mathlib.Core.Option.{Option, none, some}
 use native.Mathlib.Omega.{arith}
 use native.Mathlib.Nat.{le-of-suc-le-suc}
-use lib.ListN.{length, getD, set, replicate}
+use lib.ListN.{length, take, drop, getD, set, replicate}
 use lib.Dec.{T, T-not, eqb}
 use borrow.Author.Tests.{eqb-true, eqb-false}
 use Rattle.meaning.specs.Basics.{if_then_else_, all, any, count, allOf, isZero, isSome}
@@ -138,6 +138,16 @@ module _ {A : Type 0} where
   pub all-mem : (p : A → Bool) (xs : List A) → T (all p xs) → {x : A} → List·Memᴰ x xs → T (p x)
   all-mem p (y ∷ ys) t (List·Memᴰ·head e) = rw e (and-left (p y) (all p ys) t)
   all-mem p (y ∷ ys) t (List·Memᴰ·tail m) = all-mem p ys (and-right (p y) (all p ys) t) m
+
+  pub all-take : (p : A → Bool) (n : ℕ) (xs : List A) → T (all p xs) → T (all p (take n xs))
+  all-take p zero xs t = tt
+  all-take p (suc n) [] t = tt
+  all-take p (suc n) (x ∷ xs) t = and-both (p x) (all p (take n xs)) (and-left (p x) (all p xs) t) (all-take p n xs (and-right (p x) (all p xs) t))
+
+  pub all-drop : (p : A → Bool) (n : ℕ) (xs : List A) → T (all p xs) → T (all p (drop n xs))
+  all-drop p zero xs t = t
+  all-drop p (suc n) [] t = tt
+  all-drop p (suc n) (x ∷ xs) t = all-drop p n xs (and-right (p x) (all p xs) t)
 
   pub all-place : (p : A → Bool) (xs : List A) (d : A) (j : ℕ) → T (all p xs) → j < length xs → T (p (getD xs j d))
   all-place p [] d j t h = absurd (omega (arith, h))

@@ -1,10 +1,12 @@
 -- Which answer each way through conditioning, the service actions and formatting gives.
-use Prim.Native.Nat.{ℕ, _≤_, _<_}
+use Prim.Native.Nat.{ℕ, _-_, _≤_, _<_}
 use mathlib.Core.Path.{_≡_, refl, ap, sym, subst, _∙_}
 use mathlib.Core.Bool.{true, false}
 use mathlib.Core.List.{List, []}
+use native.Mathlib.Nat.{sub-zero}
 use native.Mathlib.Omega.{arith}
-use lib.ListN.{length, drop, getD, length-take}
+use lib.ListN.{length, take, drop, getD, length-take, length-drop}
+use lib.Seq.{length-take-le}
 use borrow.Author.Tests.{le-leb, lt-leb}
 use Rattle.meaning.specs.Basics.{isEmpty, writtenOver}
 use Rattle.meaning.specs.Refusals.{SHORT, LONG}
@@ -19,25 +21,42 @@ use Rattle.meaning.specs.declared.Answered.{Answered}
 use Rattle.services.specs.declared.Served.{Served}
 use Rattle.services.specs.Stages.{stageAfter, ServedAnew, Serviceable}
 use Rattle.services.proofs.Going.{response-after, withheld-after, responded-after}
-use Rattle.formatting.specs.Values.{Formattable}
-use Rattle.formatting.specs.Joins.{outgoing, Few, Writes}
-use Rattle.formatting.proofs.Joining.{outgoing-after}
-use Rattle.number.specs.Answering.{countedAs, servedBy, finished, answerWith, givenBy, Answerable}
-use Rattle.number.specs.Promises.{GivesAnswer}
+use Rattle.formatting.specs.Sources.{sourceOf}
+use Rattle.formatting.specs.Joins.{outgoing, outgoingIn, JoinsInto}
+use Rattle.formatting.proofs.Places.{source-settings, source-part}
+use Rattle.formatting.proofs.Joining.{outgoing-after, joins-as, joined-count, joined-few, joined-many}
+use Rattle.number.specs.Answering.{countedAs, servedBy, finished, answerWith, givenBy, lookupOfBody, digitsOfBody, Finishable, Answerable}
+use Rattle.number.specs.Promises.{HoldsAnswer, GivesAnswer}
 
 -- AN ANSWER GIVEN
 
-pub gives : (a b : Answer) (out after : List ℕ) (r : Answered) → a ≡ b → r ≡ answeredAs b → after ≡ writtenOver (b .digits) out → GivesAnswer a out after r
-gives a b out after r e p q = subst (λ (x : Answer). GivesAnswer x out after r) (sym e) (record { result = p; buffer = q })
-
--- a refusal, and an answer before the service actions: the buffer stays
+-- a refusal: the lent buffer stays
 pub gives-refused : (a : Answer) (k : ℕ) (out : List ℕ) (r : Answered) → a ≡ refused k → r ≡ answeredAs (refused k) → GivesAnswer a out out r
 unfolding refused
-gives-refused a k out r e p = gives a (refused k) out out r e p refl
+gives-refused a k out r e p = subst (λ (x : Answer). GivesAnswer x out out r) (sym e) (record { result = p; buffer = refl })
 
-pub gives-unserved : (a : Answer) (outcome class : ℕ) (out : List ℕ) (r : Answered) → a ≡ unserved outcome class → r ≡ answeredAs (unserved outcome class) → GivesAnswer a out out r
+-- how many are counted
+pub holds-count : {a : Answer} {after : List ℕ} {r : Answered} → HoldsAnswer a after r → r .digits ≡ length (a .digits)
+holds-count h = ap (λ (x : Answered). x .digits) (h .result)
+
+pub holds-few : {a : Answer} {after : List ℕ} {r : Answered} → HoldsAnswer a after r → r .digits ≤ 32
+holds-few h = omega (arith, holds-count h, h .few)
+
+-- an answer whose digits are copied to the front of a lent buffer
+pub gives-copied : (a : Answer) (held out after : List ℕ) (r : Answered) → HoldsAnswer a held r → after ≡ writtenOver (take (r .digits - 0) held) out → GivesAnswer a out after r
+gives-copied a held out after r h e = record { result = h .result; buffer = e ∙ rw (sub-zero, holds-count h, h .digits) }
+
+pub holds : (a b : Answer) (after : List ℕ) (r : Answered) → a ≡ b → r ≡ answeredAs b → length (b .digits) ≤ 32 → take (length (b .digits)) after ≡ b .digits → HoldsAnswer a after r
+holds a b after r e p f q = subst (λ (x : Answer). HoldsAnswer x after r) (sym e) (record { result = p; few = f; digits = q })
+
+-- a refusal, and an answer before the service actions
+pub holds-refused : (a : Answer) (k : ℕ) (after : List ℕ) (r : Answered) → a ≡ refused k → r ≡ answeredAs (refused k) → HoldsAnswer a after r
+unfolding refused
+holds-refused a k after r e p = holds a (refused k) after r e p (omega arith) refl
+
+pub holds-unserved : (a : Answer) (outcome class : ℕ) (after : List ℕ) (r : Answered) → a ≡ unserved outcome class → r ≡ answeredAs (unserved outcome class) → HoldsAnswer a after r
 unfolding unserved
-gives-unserved a outcome class out r e p = gives a (unserved outcome class) out out r e p refl
+holds-unserved a outcome class after r e p = holds a (unserved outcome class) after r e p (omega arith) refl
 
 -- AFTER THE SERVICE ACTIONS
 
@@ -60,23 +79,39 @@ module _ (incoming class : ℕ) (s : Served) (ds : List ℕ) where
       unfolding finished
       finished-formatted h = rw (lt-leb 2 (s .response) relay, w, le-leb (length ds) 32 h)
 
+-- the outgoing digits that a source gives are those of its body and its settings
+pub joined-from : (settings body cas : List ℕ) (n prefix : ℕ) (s : Served) (fas buffer : List ℕ) {source after : List ℕ} {most r : ℕ} → length settings ≡ 36 → length body ≡ 73 → n ≤ 32
+    → source ≡ sourceOf settings body buffer → JoinsInto (outgoingIn source n cas prefix s fas) most after r
+    → JoinsInto (outgoing settings (lookupOfBody body) (digitsOfBody n body) cas prefix s fas) most after r
+joined-from settings body cas n prefix s fas buffer k b h is j =
+    joins-as
+    (rw (
+      is,
+      source-settings settings body buffer k b,
+      source-part settings body buffer k b 34 39 (omega arith),
+      source-part settings body buffer k b 2 n (omega arith),
+    ))
+    j
+
 -- each of them with what the buffer holds
-module _ (incoming class : ℕ) (s : Served) (ds out : List ℕ) (r : Answered) where
-  pub gives-responded : 2 ≤ s .response → r ≡ countedAs RESPONDED incoming s 0 → GivesAnswer (finished incoming class s ds) out out r
-  gives-responded h p = gives (finished incoming class s ds) (servedBy RESPONDED incoming s []) out out r (finished-responded incoming class s ds h) p refl
+module _ (incoming class : ℕ) (s : Served) (ds after : List ℕ) (r : Answered) where
+  pub holds-responded : 2 ≤ s .response → r ≡ countedAs RESPONDED incoming s 0 → HoldsAnswer (finished incoming class s ds) after r
+  holds-responded h p = holds (finished incoming class s ds) (servedBy RESPONDED incoming s []) after r (finished-responded incoming class s ds h) p (omega arith) refl
 
-  pub gives-withheld : s .response < 2 → s .withheld ≡ true → r ≡ countedAs UNCHANGED incoming s 0 → GivesAnswer (finished incoming class s ds) out out r
-  gives-withheld l w p = gives (finished incoming class s ds) (servedBy UNCHANGED incoming s []) out out r (finished-withheld incoming class s ds l w) p refl
+  pub holds-withheld : s .response < 2 → s .withheld ≡ true → r ≡ countedAs UNCHANGED incoming s 0 → HoldsAnswer (finished incoming class s ds) after r
+  holds-withheld l w p = holds (finished incoming class s ds) (servedBy UNCHANGED incoming s []) after r (finished-withheld incoming class s ds l w) p (omega arith) refl
 
-  pub gives-long : s .response < 2 → s .withheld ≡ false → (n : ℕ) → n ≡ length ds → 32 < n → r ≡ answeredAs (refused LONG) → GivesAnswer (finished incoming class s ds) out out r
-  gives-long l w n n-is h p = gives-refused (finished incoming class s ds) LONG out r (finished-long incoming class s ds l w (omega arith)) p
+  -- the digits are joined: too many, or as many as are counted
+  module _ (l : s .response < 2) (w : s .withheld ≡ false) (n : ℕ) (j : JoinsInto ds 32 after n) where
+    pub holds-long : 32 < n → r ≡ answeredAs (refused LONG) → HoldsAnswer (finished incoming class s ds) after r
+    holds-long h p = holds-refused (finished incoming class s ds) LONG after r (finished-long incoming class s ds l w (joined-many j h)) p
 
-  -- the digits written are counted
-  pub gives-written : s .response < 2 → s .withheld ≡ false → (n : ℕ) → n ≡ length ds → n ≤ 32 → (after : List ℕ) (written : ℕ) → Writes ds out after written
-      → r ≡ countedAs FORMATTED class s written → GivesAnswer (finished incoming class s ds) out after r
-  gives-written l w n n-is h after written writes p =
-      gives (finished incoming class s ds) (servedBy FORMATTED class s ds) out after r (finished-formatted incoming class s ds l w (omega arith))
-      (p ∙ ap (countedAs FORMATTED class s) (writes .count)) (writes .written)
+    pub holds-written : n ≤ 32 → r ≡ countedAs FORMATTED class s n → HoldsAnswer (finished incoming class s ds) after r
+    holds-written h p =
+        let few : length ds ≤ 32 = joined-few j h in
+        let n-is : n ≡ length ds = joined-count j few in
+        holds (finished incoming class s ds) (servedBy FORMATTED class s ds) after r (finished-formatted incoming class s ds l w few)
+        (p ∙ ap (countedAs FORMATTED class s) n-is) few (ap (λ (k : ℕ). take k after) (sym n-is) ∙ j .digits few)
 
 -- BY A RULE'S SET
 
@@ -117,32 +152,31 @@ module _ (settings lookup : List ℕ) (class : ℕ) (digits : List ℕ) (prefix 
           is ∙ (after-is done (codesOf fas) class sent d ∙ ap (finished class sent s) (sym (outgoing-after done digits cas prefix fas)))
 
       -- so what follows the service actions is the answer
-      pub gives-served : short prefix (length digits) (casOf cas) ≡ false → (sas fas : List ℕ) → sas ≡ saBytes content → fas ≡ faBytes content
-          → (s : Served) → ServedAnew sas settings lookup s → (out after : List ℕ) (r : Answered)
-          → GivesAnswer (finished class sent s (outgoing settings lookup digits cas prefix s fas)) out after r
-          → GivesAnswer (givenBy settings lookup class digits prefix content) out after r
-      gives-served e sas fas sas-is fas-is s done out after r g =
-          subst (λ (x : Answer). GivesAnswer x out after r) (sym (given-served e sas fas sas-is fas-is s done)) g
+      pub holds-served : short prefix (length digits) (casOf cas) ≡ false → (sas fas : List ℕ) → sas ≡ saBytes content → fas ≡ faBytes content
+          → (s : Served) → ServedAnew sas settings lookup s → (after : List ℕ) (r : Answered)
+          → HoldsAnswer (finished class sent s (outgoing settings lookup digits cas prefix s fas)) after r
+          → HoldsAnswer (givenBy settings lookup class digits prefix content) after r
+      holds-served e sas fas sas-is fas-is s done after r g =
+          subst (λ (x : Answer). HoldsAnswer x after r) (sym (given-served e sas fas sas-is fas-is s done)) g
+
+pub digits-long : (body : List ℕ) (n : ℕ) → length body ≡ 73 → n ≤ 32 → length (digitsOfBody n body) ≡ n
+digits-long body n long few = length-take-le n (drop 2 body) (rw length-drop (omega arith))
 
 -- WHAT THE SERVICE STAGE AND FORMATTING ASK
 
-module _ (settings lookup digits content out : List ℕ) (a : Answerable settings lookup digits content out) where
-  pub serviceable : (sas : List ℕ) → sas ≡ saBytes content → Serviceable sas settings lookup
-  serviceable sas e =
+module _ (settings body : List ℕ) (n : ℕ) (content out : List ℕ) (a : Answerable settings body n content out) where
+  pub serviceable : (sas lookup : List ℕ) → sas ≡ saBytes content → lookup ≡ lookupOfBody body → Serviceable sas settings lookup
+  serviceable sas lookup e f =
       record {
         few = rw e (rw (length-take 8 (drop 25 content)) (omega arith));
         settings-long = a .settings-long;
-        lookup-long = a .lookup-long;
-        kind = a .kind;
+        lookup-long = rw (f, length-take, length-drop) (omega (arith, a .body-long));
+        kind = rw f (a .kind);
       }
 
-  pub finishable : (cas fas : List ℕ) (prefix : ℕ) → fas ≡ faBytes content → short prefix (length digits) (casOf cas) ≡ false
-      → Formattable settings lookup digits cas prefix × Few digits fas × (32 ≤ length out)
-  finishable cas fas prefix e enough = (
-    record { looked = record { settings-long = a .settings-long; lookup-long = a .lookup-long }; enough = enough },
-    record { digits-few = a .digits-few; fas-few = rw e (rw (length-take 12 (drop 33 content)) (omega arith)) },
-    a .room,
-  )
+  pub finishable : (cas : List ℕ) (prefix : ℕ) → short prefix n (casOf cas) ≡ false → Finishable settings body n cas prefix out
+  finishable cas prefix enough =
+      record { settings-long = a .settings-long; body-long = a .body-long; few = a .few; enough = enough; room = a .room }
 
 -- the rule's filter is needed for its prefix's length alone
 pub answer-with : (settings : Settings) (n : Number) (f : Filter) (s : ActionSet) (prefix : ℕ) → prefix ≡ length (f .prefix) → answerBy settings n f s ≡ answerWith settings n prefix s

@@ -25,9 +25,9 @@ use Rattle.plan.specs.Layout.{planOf}
 use Rattle.plan.proofs.ReadLaws.{sound-is}
 use Rattle.choice.specs.Chosen.{Prefix, NamedContent}
 use Rattle.choice.proofs.Chosen.{rulePlaced, ChosenAt, chosen-at, none-chosen}
-use Rattle.number.specs.Answering.{givenBy, Answerable, Digits, Ready, Placed}
-use Rattle.number.specs.Promises.{GivesAnswer}
-use Rattle.number.proofs.Answering.{gives-unserved, answer-with}
+use Rattle.number.specs.Answering.{givenBy, digitsOfBody, Answerable, Digits, Known, Ready, Placed}
+use Rattle.number.specs.Promises.{HoldsAnswer}
+use Rattle.number.proofs.Answering.{holds-unserved, answer-with}
 
 -- THE BODY
 
@@ -50,10 +50,7 @@ module _ (body : List ℕ) (whole : length body ≡ 73) (range : numberInRange b
       let few : getD body 1 0 ≤ 32 = digits-few in
       let k : n + 2 - 2 ≡ getD body 1 0 = omega arith in
       let l : length (take (getD body 1 0) (drop 2 body)) ≡ getD body 1 0 = length-take-le (getD body 1 0) (drop 2 body) (rw (length-drop 2 body) (omega arith)) in
-      rw k (record { is = sym (digits-at 1 32 body (omega arith) few); few = omega arith })
-
-  pub lookup-long : length (part 34 39 body) ≡ 39
-  lookup-long = length-take-le 39 (drop 34 body) (rw (length-drop 34 body) (omega arith))
+      rw k (record { is = sym (digits-at 1 32 body (omega arith) few); from = rw l; few = omega arith })
 
   pub lookup-kind : getD (part 34 39 body) 0 0 ≤ 3
   unfolding lookupInRange
@@ -61,23 +58,29 @@ module _ (body : List ℕ) (whole : length body ≡ 73) (range : numberInRange b
 
 -- BY THE RULE CHOSEN
 
-module _ (m body ds out : List ℕ) (k : ℕ) (placed : Placed m body ds k out) where
+module _ (m body out : List ℕ) (n k : ℕ) (placed : Placed m body n k out) where
+  abbrev ds : List ℕ
+  ds = digitsOfBody n body
+
+  known : Known m body
+  known = placed .ready .known
+
   number-is : numberOf body ≡ record { class = getD body 0 0; digits = ds; lookup = lookupOf (part 34 39 body) }
   unfolding numberOf
-  number-is = rw (placed .digits .is)
+  number-is = rw (placed .digits)
 
   pub at-place : ChosenAt m (getD body 0 0) ds k
-  at-place = chosen-at m (getD body 0 0) ds k (placed .ready .sound) (placed .place)
+  at-place = chosen-at m (getD body 0 0) ds k (known .sound) (placed .place)
 
   module _ (settings content : List ℕ) (prefix : ℕ) (settings-is : settings ≡ planOf m .settings) (prefix-is : Prefix (rulePlaced m k) prefix)
       (content-is : NamedContent (planOf m) (rulePlaced m k) content) where
-    pub answerable : Answerable settings (part 34 39 body) ds content out
+    pub answerable : Answerable settings body n content out
     answerable =
         record {
-          settings-long = ap length settings-is ∙ sound-is m (placed .ready .sound) .plan .settings-size;
-          lookup-long = lookup-long body (placed .ready .whole) (placed .ready .range);
-          kind = lookup-kind body (placed .ready .whole) (placed .ready .range);
-          digits-few = placed .digits .few;
+          settings-long = ap length settings-is ∙ sound-is m (known .sound) .plan .settings-size;
+          body-long = known .whole;
+          kind = lookup-kind body (known .whole) (known .range);
+          few = placed .few;
           content-long = content-is .size;
           room = placed .ready .room;
         }
@@ -85,26 +88,27 @@ module _ (m body ds out : List ℕ) (k : ℕ) (placed : Placed m body ds k out) 
     answer-is : answerOf (planOf m) (numberOf body) ≡ givenBy settings (part 34 39 body) (getD body 0 0) ds prefix content
     unfolding answerOf
     answer-is =
-        let n : Number = record { class = getD body 0 0; digits = ds; lookup = lookupOf (part 34 39 body) } in
-        ap (λ (x : Number). answerUnder (planOf m) x (chosen (x .class) (x .digits) (planOf m .rules))) number-is
-        ∙ (ap (answerUnder (planOf m) n) (at-place .is)
-        ∙ (ap (λ (o : Option (List ℕ)). answerBy (settingsIn (planOf m)) n (filterIn (rulePlaced m k)) (actionsIn o)) (content-is .is)
-        ∙ (answer-with (settingsIn (planOf m)) n (filterIn (rulePlaced m k)) (actionsOf content) prefix (prefix-is .is) ∙ rw settings-is)))
+        let x : Number = record { class = getD body 0 0; digits = ds; lookup = lookupOf (part 34 39 body) } in
+        ap (λ (y : Number). answerUnder (planOf m) y (chosen (y .class) (y .digits) (planOf m .rules))) number-is
+        ∙ (ap (answerUnder (planOf m) x) (at-place .is)
+        ∙ (ap (λ (o : Option (List ℕ)). answerBy (settingsIn (planOf m)) x (filterIn (rulePlaced m k)) (actionsIn o)) (content-is .is)
+        ∙ (answer-with (settingsIn (planOf m)) x (filterIn (rulePlaced m k)) (actionsOf content) prefix (prefix-is .is) ∙ rw settings-is)))
 
-    pub gives-placed : (after : List ℕ) (r : Answered) → GivesAnswer (givenBy settings (part 34 39 body) (getD body 0 0) ds prefix content) out after r
-        → GivesAnswer (answerOf (planOf m) (numberOf body)) out after r
-    gives-placed after r g = subst (λ (x : Answer). GivesAnswer x out after r) (sym answer-is) g
+    pub holds-placed : (after : List ℕ) (r : Answered) → HoldsAnswer (givenBy settings (part 34 39 body) (getD body 0 0) ds prefix content) after r
+        → HoldsAnswer (answerOf (planOf m) (numberOf body)) after r
+    holds-placed after r g = subst (λ (x : Answer). HoldsAnswer x after r) (sym answer-is) g
 
 -- BY THE CHOICE
 
 module _ (m body ds out : List ℕ) (ready : Ready m body out) (digits : Digits body ds) (o : Chosen)
     (o-is : placeChosen o ≡ chosenPlace (getD body 0 0) ds (planOf m .rules)) where
-  pub placed-at : (place : RulePlace) → o ≡ At place → Placed m body ds (place .0) out
-  placed-at place q = record { ready = ready; digits = digits; place = sym o-is ∙ ap placeChosen q }
+  pub placed-at : (place : RulePlace) → o ≡ At place → Placed m body (length ds) (place .0) out
+  placed-at place q =
+      record { ready = ready; digits = digits .from ∙ digits .is; few = digits .few; place = rw (digits .from) (sym o-is ∙ ap placeChosen q) }
 
-  pub gives-none : o ≡ NoRule → (r : Answered) → r ≡ answeredAs (unserved NO-RULE (getD body 0 0)) → GivesAnswer (answerOf (planOf m) (numberOf body)) out out r
+  pub holds-none : o ≡ NoRule → (after : List ℕ) (r : Answered) → r ≡ answeredAs (unserved NO-RULE (getD body 0 0)) → HoldsAnswer (answerOf (planOf m) (numberOf body)) after r
   unfolding answerOf numberOf
-  gives-none q r e =
+  holds-none q after r e =
       let c : chosen (getD body 0 0) (numberOf body .digits) (planOf m .rules) ≡ none =
       ap (λ (x : List ℕ). chosen (getD body 0 0) x (planOf m .rules)) (sym (digits .is)) ∙ none-chosen m (getD body 0 0) ds (sym o-is ∙ ap placeChosen q) in
-      gives-unserved (answerOf (planOf m) (numberOf body)) NO-RULE (getD body 0 0) out r (ap (answerUnder (planOf m) (numberOf body)) c) e
+      holds-unserved (answerOf (planOf m) (numberOf body)) NO-RULE (getD body 0 0) after r (ap (answerUnder (planOf m) (numberOf body)) c) e

@@ -4,7 +4,6 @@ use mathlib.Core.Path.{_≡_, ap, sym, subst, _∙_}
 use mathlib.Core.Bool.{true, false}
 use mathlib.Core.List.{List}
 use mathlib.Core.Option.{Option, none, some}
-use native.Mathlib.Omega.{arith}
 use lib.ListN.{length, take}
 use lib.Seq.{length-take-le}
 use borrow.Author.Tests.{lt-ltb, le-ltb}
@@ -17,7 +16,7 @@ use Rattle.meaning.specs.declared.Answered.{Answered}
 use Rattle.plan.specs.Layout.{planOf}
 use Rattle.plan.specs.State.{soundOf, stateOf}
 use Rattle.plan.proofs.ImageLaws.{state-some, state-none}
-use Rattle.number.specs.Answering.{Ready}
+use Rattle.number.specs.Answering.{Known}
 use Rattle.number.specs.Promises.{GivesAnswer, AnswerPromise}
 use Rattle.number.proofs.Answering.{gives-refused}
 
@@ -58,5 +57,5 @@ module _ (m body out : List ℕ) (r : Answered) where
             subst (λ (x : Answer). GivesAnswer x out after r) (sym (over ∙ is)) g
 
 -- what the answer over the plan asks
-pub ready-is : (m body out : List ℕ) → 73 ≤ length body → soundOf m ≡ true → 35 ≤ length out → numberInRange (take 73 body) ≡ true → Ready m (take 73 body) out
-ready-is m body out whole s room q = record { sound = s; whole = length-take-le 73 body whole; range = q; room = omega arith }
+pub known-is : (m body : List ℕ) → 73 ≤ length body → soundOf m ≡ true → numberInRange (take 73 body) ≡ true → Known m (take 73 body)
+known-is m body whole s q = record { sound = s; whole = length-take-le 73 body whole; range = q }

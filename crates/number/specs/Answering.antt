@@ -1,16 +1,16 @@
 -- The answer to a number by the struct of its service stage, and what the functions on the way to it ask.
 use Prim.Native.Nat.{ℕ, _≤_}
 use mathlib.Core.Path.{_≡_}
-use mathlib.Core.Bool.{true}
+use mathlib.Core.Bool.{true, false}
 use mathlib.Core.List.{List, []}
 use mathlib.Core.Option.{some}
 use lib.ListN.{length, getD}
 use lib.Dec.{leb}
-use Rattle.meaning.specs.Basics.{if_then_else_, isEmpty}
+use Rattle.meaning.specs.Basics.{if_then_else_, isEmpty, part}
 use Rattle.meaning.specs.Refusals.{SHORT, LONG}
 use Rattle.meaning.specs.Settings.{Settings, Number, settingsOf, lookupOf, numberOf, numberInRange}
 use Rattle.meaning.specs.Rules.{chosenPlace}
-use Rattle.meaning.specs.Actions.{ActionSet, actionsOf}
+use Rattle.meaning.specs.Actions.{ActionSet, actionsOf, casOf}
 use Rattle.meaning.specs.Conditioning.{short, valueFrom}
 use Rattle.meaning.specs.Services.{Stage, atStart, serve, valueToSend, join}
 use Rattle.meaning.specs.Answer.{ESCAPED, RESPONDED, UNCHANGED, FORMATTED, Answer, refused, unserved, outgoingClass, afterServices}
@@ -50,29 +50,50 @@ abbrev pub givenBy : List ℕ → List ℕ → ℕ → List ℕ → ℕ → List
 givenBy settings lookup class digits prefix content =
     answerWith (settingsOf settings) (record { class = class; digits = digits; lookup = lookupOf lookup }) prefix (actionsOf content)
 
--- the settings, a lookup with its kind in range, digits, a set's content, and room for the outgoing digits
-pub record Answerable (settings lookup digits content out : List ℕ) : Type 0 where
+-- what a body has: its lookup, and the n digits of its number
+abbrev pub lookupOfBody : List ℕ → List ℕ
+lookupOfBody body = part 34 39 body
+
+abbrev pub digitsOfBody : ℕ → List ℕ → List ℕ
+digitsOfBody n body = part 2 n body
+
+-- the settings, a body whose n digits are enough for the conditioning actions, and room for the outgoing digits and a block
+pub record Finishable (settings body : List ℕ) (n : ℕ) (cas : List ℕ) (prefix : ℕ) (out : List ℕ) : Type 0 where
   pub settings-long : length settings ≡ 36
-  pub lookup-long : length lookup ≡ 39
-  pub kind : getD lookup 0 0 ≤ 3
-  pub digits-few : length digits ≤ 32
+  pub body-long : length body ≡ 73
+  pub few : n ≤ 32
+  pub enough : short prefix n (casOf cas) ≡ false
+  pub room : 64 ≤ length out
+
+-- the settings, a body of n digits with its lookup's kind in range, a set's content, and room
+pub record Answerable (settings body : List ℕ) (n : ℕ) (content out : List ℕ) : Type 0 where
+  pub settings-long : length settings ≡ 36
+  pub body-long : length body ≡ 73
+  pub kind : getD (lookupOfBody body) 0 0 ≤ 3
+  pub few : n ≤ 32
   pub content-long : length content ≡ 45
-  pub room : 32 ≤ length out
+  pub room : 64 ≤ length out
 
 -- ds are the digits of a body
 pub record Digits (body ds : List ℕ) : Type 0 where
   pub is : ds ≡ numberOf body .digits
+  pub from : digitsOfBody (length ds) body ≡ ds
   pub few : length ds ≤ 32
 
--- a sound plan, a number's body in range, and room for the outgoing digits
-pub record Ready (m body out : List ℕ) : Type 0 where
+-- a sound plan, and a number's body in range
+pub record Known (m body : List ℕ) : Type 0 where
   pub sound : soundOf m ≡ true
   pub whole : length body ≡ 73
   pub range : numberInRange body ≡ true
-  pub room : 32 ≤ length out
 
--- and the rule chosen, at place k
-pub record Placed (m body ds : List ℕ) (k : ℕ) (out : List ℕ) : Type 0 where
+-- and room for the outgoing digits and a block
+pub record Ready (m body out : List ℕ) : Type 0 where
+  pub known : Known m body
+  pub room : 64 ≤ length out
+
+-- and the rule chosen, at place k, for the n digits of the body
+pub record Placed (m body : List ℕ) (n k : ℕ) (out : List ℕ) : Type 0 where
   pub ready : Ready m body out
-  pub digits : Digits body ds
-  pub place : chosenPlace (getD body 0 0) ds (planOf m .rules) ≡ some k
+  pub digits : digitsOfBody n body ≡ numberOf body .digits
+  pub few : n ≤ 32
+  pub place : chosenPlace (getD body 0 0) (digitsOfBody n body) (planOf m .rules) ≡ some k

@@ -2,21 +2,21 @@
 use choice::choose;
 use choice::content_at;
 use choice::prefix_at;
-use formatting::joined_length;
-use formatting::write_joined;
+use formatting::SOURCE_BYTES;
+use formatting::fill_source;
+use formatting::join_values;
 use services::Served;
 ghost use mathlib.Core.Path.{_≡_};
 ghost use mathlib.Core.Bool.{true};
-ghost use Prim.Native.Nat.{_≤_, _<_};
-ghost use lib.ListN.{length};
+ghost use Prim.Native.Nat.{_≤_};
+ghost use lib.ListN.{length, getD};
 ghost use Rattle.meaning.specs.Settings.{numberOf, numberInRange};
 ghost use Rattle.meaning.specs.Answer.{refused, unserved, outgoingClass, answerOf};
 ghost use Rattle.meaning.specs.Answers.{answeredAs};
-ghost use Rattle.formatting.specs.Values.{Formattable};
-ghost use Rattle.formatting.specs.Joins.{outgoing, Few};
+ghost use Rattle.formatting.specs.Joins.{outgoing};
 ghost use Rattle.plan.specs.Layout.{planOf};
-ghost use Rattle.number.specs.Answering.{countedAs, finished, givenBy, Answerable, Digits, Ready, Placed};
-ghost use Rattle.number.specs.Promises.{GivesAnswer, AnswerPromise};
+ghost use Rattle.number.specs.Answering.{countedAs, finished, givenBy, lookupOfBody, digitsOfBody, Finishable, Answerable, Digits, Known, Ready, Placed};
+ghost use Rattle.number.specs.Promises.{HoldsAnswer, GivesAnswer, AnswerPromise};
 use meaning::Answered;
 use meaning::Chosen;
 use meaning::Class;
@@ -37,6 +37,9 @@ const DIGITS: usize = 2;
 const MOST: usize = 32;
 
 const ROOM_BYTES: usize = 35;
+
+// The bytes that the outgoing digits take while they are made: behind the last of them a block may stand.
+pub const ANSWER_BYTES: usize = 64;
 
 // The first response that ends the service stage.
 const CONNECT: u8 = 2;
@@ -122,11 +125,12 @@ fn outgoing_class(set: u8, incoming: u8) -> u8
     }
 }
 
-// What follows the service actions: a response, formatting withheld, or the outgoing digits, unless they are too many. `class` is the outgoing one.
-fn finish<'a>(
-    settings: &'a [u8],
-    lookup: &'a [u8],
-    digits: &'a [u8],
+// What follows the service actions: a response, formatting withheld, or the outgoing digits, unless they are too many. `class` is the outgoing one, n how many
+// digits the number has.
+fn finish(
+    settings: &[u8],
+    body: &[u8],
+    n: usize,
     cas: &[u8],
     prefix: usize,
     s: Served,
@@ -135,8 +139,8 @@ fn finish<'a>(
     class: u8,
     out: &mut [u8],
 ) -> Answered
-    requires { ⌜ Formattable (now settings) (now lookup) (now digits) (now cas) prefix × Few (now digits) (now fas) × (32 ≤ length (now out)) ⌝ }
-    ensures { λ r. ⌜ GivesAnswer (finished incoming class s (outgoing (now (settings .entry)) (now (lookup .entry)) (now (digits .entry)) (now (cas .entry)) prefix s (now (fas .entry)))) (now (out .entry)) (now (out .exit)) r ⌝ }
+    requires { ⌜ Finishable (now settings) (now body) n (now cas) prefix (now out) ⌝ }
+    ensures { λ r. ⌜ HoldsAnswer (finished incoming class s (outgoing (now (settings .entry)) (lookupOfBody (now (body .entry))) (digitsOfBody n (now (body .entry))) (now (cas .entry)) prefix s (now (fas .entry)))) (now (out .exit)) r ⌝ }
 {
     if CONNECT <= s.response {
         return served(RESPONDED, incoming, s, 0);
@@ -144,49 +148,39 @@ fn finish<'a>(
     if s.withheld {
         return served(UNCHANGED, incoming, s, 0);
     }
-    let n = joined_length(settings, lookup, digits, cas, prefix, s, fas);
-    if MOST < n {
+    let mut source = [0u8; SOURCE_BYTES];
+    fill_source(settings, body, &mut source);
+    let written = join_values(&source, n, cas, prefix, s, fas, MOST, out);
+    if MOST < written {
         return refused(LONG);
     }
-    let written = write_joined(settings, lookup, digits, cas, prefix, s, fas, out);
     served(FORMATTED, class, s, written)
 }
 
-// What a rule with a prefix of that many digits and the content of its set make of a number.
-fn answer_by<'a>(
-    settings: &'a [u8],
-    lookup: &'a [u8],
-    class: u8,
-    digits: &'a [u8],
+// What a rule with a prefix of that many digits and the content of its set make of a number of n digits.
+fn answer_by(
+    settings: &[u8],
+    body: &[u8],
+    n: usize,
     prefix: usize,
     content: &[u8],
     out: &mut [u8],
 ) -> Answered
-    requires { ⌜ Answerable (now settings) (now lookup) (now digits) (now content) (now out) ⌝ }
-    ensures { λ r. ⌜ GivesAnswer (givenBy (now (settings .entry)) (now (lookup .entry)) class (now (digits .entry)) prefix (now (content .entry))) (now (out .entry)) (now (out .exit)) r ⌝ }
+    requires { ⌜ Answerable (now settings) (now body) n (now content) (now out) ⌝ }
+    ensures { λ r. ⌜ HoldsAnswer (givenBy (now (settings .entry)) (lookupOfBody (now (body .entry))) (getD (now (body .entry)) 0 0) (digitsOfBody n (now (body .entry))) prefix (now (content .entry))) (now (out .exit)) r ⌝ }
 {
+    let class = body[0];
     let cas = ranges::cas_of(content);
     let sent = outgoing_class(content[0], class);
     if actions::no_conditioning(cas) {
         return unserved(ESCAPED, sent);
     }
-    if conditioning::is_short(cas, prefix, digits.len()) {
+    if conditioning::is_short(cas, prefix, n) {
         return refused(SHORT);
     }
-    let s = services::service_stage(ranges::sas_of(content), settings, lookup);
+    let s = services::service_stage(ranges::sas_of(content), settings, &body[LOOKUP..BODY]);
     let fas = ranges::fas_of(content);
-    finish(
-        settings,
-        lookup,
-        digits,
-        cas,
-        prefix,
-        s,
-        fas,
-        class,
-        sent,
-        out,
-    )
+    finish(settings, body, n, cas, prefix, s, fas, class, sent, out)
 }
 
 // The digits of a body in range.
@@ -198,47 +192,45 @@ fn digits_in<'a>(body: &'a [u8]) -> &'a [u8]
     &body[DIGITS..e]
 }
 
-// The answer by the rule chosen, which stands at a place.
-fn answer_at<'a>(
-    plan: &'a [u8],
-    body: &'a [u8],
-    digits: &'a [u8],
-    place: RulePlace,
-    out: &mut [u8],
-) -> Answered
-    requires { ⌜ Placed (now plan) (now body) (now digits) (place .0) (now out) ⌝ }
-    ensures { λ r. ⌜ GivesAnswer (answerOf (planOf (now (plan .entry))) (numberOf (now (body .entry)))) (now (out .entry)) (now (out .exit)) r ⌝ }
+// The answer by the rule chosen, which stands at a place, for a number of n digits.
+fn answer_at(plan: &[u8], body: &[u8], n: usize, place: RulePlace, out: &mut [u8]) -> Answered
+    requires { ⌜ Placed (now plan) (now body) n (place .0) (now out) ⌝ }
+    ensures { λ r. ⌜ HoldsAnswer (answerOf (planOf (now (plan .entry))) (numberOf (now (body .entry)))) (now (out .exit)) r ⌝ }
 {
     let prefix = prefix_at(plan, place);
     let content = content_at(plan, place);
     let settings = plan::settings(plan);
-    let class = body[0];
-    answer_by(
-        settings,
-        &body[LOOKUP..BODY],
-        class,
-        digits,
-        prefix,
-        content,
-        out,
-    )
+    answer_by(settings, body, n, prefix, content, out)
 }
 
-// The answer over a plan that is known to be sound, for a body of just its length that is in range.
-pub fn answer_known<'a>(plan: &'a [u8], body: &'a [u8], out: &mut [u8]) -> Answered
+// The answer over a plan that is known to be sound, for a body of just its length that is in range. The outgoing digits stand at the front of a buffer of which
+// nothing else is kept.
+pub fn answer_known(plan: &[u8], body: &[u8], out: &mut [u8]) -> Answered
     requires { ⌜ Ready (now plan) (now body) (now out) ⌝ }
-    ensures { λ r. ⌜ GivesAnswer (answerOf (planOf (now (plan .entry))) (numberOf (now (body .entry)))) (now (out .entry)) (now (out .exit)) r ⌝ }
+    ensures { λ r. ⌜ HoldsAnswer (answerOf (planOf (now (plan .entry))) (numberOf (now (body .entry)))) (now (out .exit)) r ⌝ }
 {
     let digits = digits_in(body);
     let class = body[0];
     match choose(plan, class, digits) {
         Chosen::NoRule => unserved(NO_RULE, class),
-        Chosen::At(place) => answer_at(plan, body, digits, place, out),
+        Chosen::At(place) => answer_at(plan, body, digits.len(), place, out),
     }
 }
 
+// The same with the outgoing digits at the front of a lent buffer; the bytes behind them stay.
+fn answer_written(plan: &[u8], body: &[u8], out: &mut [u8]) -> Answered
+    requires { ⌜ Known (now plan) (now body) × (35 ≤ length (now out)) ⌝ }
+    ensures { λ r. ⌜ GivesAnswer (answerOf (planOf (now (plan .entry))) (numberOf (now (body .entry)))) (now (out .entry)) (now (out .exit)) r ⌝ }
+{
+    let mut digits = [0u8; ANSWER_BYTES];
+    let a = answer_known(plan, body, &mut digits);
+    let n = a.digits;
+    buffer::copy(out, &digits[0..n]);
+    a
+}
+
 // The answer to a number, for any plan bytes, any body bytes and any buffer.
-pub fn answer<'a>(plan: &'a [u8], body: &'a [u8], out: &mut [u8]) -> Answered
+pub fn answer(plan: &[u8], body: &[u8], out: &mut [u8]) -> Answered
     ensures { λ r. ⌜ AnswerPromise (now (plan .entry)) (now (body .entry)) (now (out .entry)) (now (out .exit)) r ⌝ }
 {
     if body.len() < BODY {
@@ -254,5 +246,5 @@ pub fn answer<'a>(plan: &'a [u8], body: &'a [u8], out: &mut [u8]) -> Answered
     if !settings::number_in_range(number) {
         return refused(RANGE);
     }
-    answer_known(plan, number, out)
+    answer_written(plan, number, out)
 }

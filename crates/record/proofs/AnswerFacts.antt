@@ -20,7 +20,7 @@ use Rattle.meaning.specs.Conditioning.{short, stretchOf, digitsAt, valueFrom}
 use Rattle.meaning.specs.Services.{Stage, atStart, responded, inprtg, rnSet, cdpnnp, asdlkup, grnlkup, cdial, carryOut, serve, valueToSend, join}
 use Rattle.meaning.specs.Plan.{Plan, settingsIn, contentRules, contentPasses}
 use Rattle.meaning.specs.Answer.{NO-RULE, ESCAPED, RESPONDED, UNCHANGED, FORMATTED, Answer, refused, unserved, served, outgoingClass, formatted, afterServices, answerBy, answerUnder, answerOf}
-use Rattle.meaning.proofs.Tests.{and-left, and-right, and-both, each-all, all-at}
+use Rattle.meaning.proofs.Tests.{and-left, and-right, and-both, each-all, all-at, all-take, all-drop}
 use Rattle.meaning.proofs.Choice.{Choice, noRule, theRule, choice}
 use Rattle.meaning.proofs.Soundness.{Sound, names-held}
 
@@ -45,17 +45,6 @@ module _ {A : Type 0} (p : A → Bool) where
   all-append [] ys s t = t
   all-append (x ∷ xs) ys s t =
       and-both (p x) (all p (xs ++ ys)) (and-left (p x) (all p xs) s) (all-append xs ys (and-right (p x) (all p xs) s) t)
-
-  all-take : (n : ℕ) (xs : List A) → T (all p xs) → T (all p (take n xs))
-  all-take zero xs t = tt
-  all-take (suc n) [] t = tt
-  all-take (suc n) (x ∷ xs) t =
-      and-both (p x) (all p (take n xs)) (and-left (p x) (all p xs) t) (all-take n xs (and-right (p x) (all p xs) t))
-
-  all-drop : (n : ℕ) (xs : List A) → T (all p xs) → T (all p (drop n xs))
-  all-drop zero xs t = t
-  all-drop (suc n) [] t = tt
-  all-drop (suc n) (x ∷ xs) t = all-drop n xs (and-right (p x) (all p xs) t)
 
 -- at any place, with 0 behind the end
 four-at : (xs : List ℕ) (k : ℕ) → T (all (within 1 4) xs) → getD xs k 0 ≤ 4

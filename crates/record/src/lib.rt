@@ -9,6 +9,7 @@ ghost use Rattle.meaning.specs.Answers.{numberOfProvisioned};
 ghost use Rattle.meaning.specs.Reads.{referrerCount};
 ghost use Rattle.meaning.specs.Basics.{word};
 ghost use Rattle.plan.specs.State.{soundOf, stateOf};
+ghost use Rattle.number.specs.Answering.{Known};
 ghost use Rattle.text.specs.Writes.{LONGEST, Writes};
 ghost use Rattle.run.specs.Runs.{InRun};
 ghost use Rattle.record.specs.Turns.{listTurn, recordTurn};
@@ -88,8 +89,19 @@ fn line_of(taken: usize, written: usize, opened: bool, lines: u16) -> Line
 
 // A NUMBER, A COUNT
 
+// The line of a number in range, over a plan that is known to be sound.
+fn answer_line(plan: &[u8], body: &[u8], output: &mut [u8]) -> usize
+    requires { ⌜ Known (now plan) (now body) × (LONGEST ≤ length (now output)) ⌝ }
+    ensures { λ r. ⌜ Writes (numberLine (answer (stateOf (now (plan .entry))) 35 (now (body .entry)))) (now (output .entry)) (now (output .exit)) r ⌝ }
+{
+    let mut digits = [0u8; number::ANSWER_BYTES];
+    let a = number::answer_known(plan, body, &mut digits);
+    let n = a.digits;
+    text::number_line(a, &digits[0..n], output)
+}
+
 // The line of a number.
-fn number_record<'a>(plan: &'a [u8], opened: bool, body: &'a [u8], output: &mut [u8]) -> usize
+fn number_record(plan: &[u8], opened: bool, body: &[u8], output: &mut [u8]) -> usize
     requires { ⌜ (soundOf (now plan) ≡ opened) × (length (now body) ≡ 73) × (LONGEST ≤ length (now output)) ⌝ }
     ensures { λ r. ⌜ Writes (numberLine (answer (stateOf (now (plan .entry))) 35 (now (body .entry)))) (now (output .entry)) (now (output .exit)) r ⌝ }
 {
@@ -99,8 +111,7 @@ fn number_record<'a>(plan: &'a [u8], opened: bool, body: &'a [u8], output: &mut 
     if !settings::number_in_range(body) {
         return text::no_line(RANGE, output);
     }
-    let a = number::answer_known(plan, body, &mut output[text::DIGITS_AT..]);
-    text::number_line(a, output)
+    answer_line(plan, body, output)
 }
 
 // The line of a count of rules naming a set.
@@ -140,7 +151,7 @@ fn list_record(plan: &[u8], run: Run, output: &mut [u8]) -> Line
 // A RECORD
 
 // A record that reads the plan: kinds 7, 8 and 9.
-fn read_record<'a>(plan: &'a [u8], run: Run, kind: u8, body: &'a [u8], output: &mut [u8]) -> Line
+fn read_record(plan: &[u8], run: Run, kind: u8, body: &[u8], output: &mut [u8]) -> Line
     requires { ⌜ (soundOf (now plan) ≡ run .opened) × (7 ≤ kind) × (kind ≤ 9) × (length (now body) ≡ bodyLength kind) × (LONGEST ≤ length (now output)) ⌝ }
     ensures { λ r. ⌜ ReadPromise (recordTurn (stateOf (now (plan .entry))) (run .lines) kind (now (body .entry))) (now (plan .entry)) run (now (output .entry)) (now (output .exit)) r ⌝ }
 {

@@ -1,20 +1,22 @@
--- Digits that become text where they stand.
+-- Digits as text, one by one and eight at a time.
 use Prim.Native.Nat.{ℕ, zero, suc, _+_, _-_, _≤_, _<_}
-use mathlib.Core.Path.{_≡_, refl, sym, _∙_}
+use mathlib.Core.Path.{_≡_, refl, sym, ap, _∙_}
 use mathlib.Core.List.{List, [], _∷_, _++_, map}
-use native.Mathlib.Nat.{not-suc-le-zero, le-of-suc-le-suc, sub-zero, add-zero}
+use native.Mathlib.Nat.{not-suc-le-zero, le-of-suc-le-suc}
 use native.Mathlib.Omega.{arith}
 use lib.Dec.{T, leb→le}
-use lib.ListN.{length, take, getD, set, length-append, length-map}
-use lib.Seq.{length-take-le}
+use lib.ListN.{length, take, drop, getD, set, length-append, length-map}
+use lib.Seq.{take-take}
 use borrow.Author.Tests.{lt-ltb, le-ltb}
 use borrow.Rule.Slice.PartMut.{putMid, midOf}
-use Rattle.meaning.specs.Basics.{if_then_else_, all, isDigit, part}
+use Rattle.meaning.specs.Basics.{all, isDigit, writtenOver}
 use Rattle.meaning.specs.Records.{digitText, digitsText, prefixText}
-use Rattle.meaning.proofs.Tests.{all-place}
-use Rattle.buffer.proofs.Moves.{Seam, seam-none, seam-more, seam-whole, past-seam}
+use Rattle.meaning.proofs.Tests.{all-take, all-drop, all-place}
+use Rattle.buffer.proofs.Moves.{Seam, seam-none, seam-more, seam-all}
+use Rattle.blocks.proofs.OverLaws.{seam-block}
+use Rattle.buffer.proofs.ListLaws.{map-take, map-drop}
 use Rattle.text.specs.Writes.{Writes, digitsOr}
-use Rattle.text.proofs.Lines.{stored, named, kept-long, front-is, rest-is, again, byte-behind}
+use Rattle.text.proofs.Lines.{stored, named, byte-behind}
 
 -- ONE DIGIT
 
@@ -31,69 +33,63 @@ text-at [] i h = absurd (not-suc-le-zero h)
 text-at (x ∷ xs) zero h = refl
 text-at (x ∷ xs) (suc i) h = text-at xs i (le-of-suc-le-suc h)
 
--- ONE TURN, at place i of s, which was s₀
+-- ONE TURN that writes the digit at place i
 
-pub texts-none : (s : List ℕ) → Seam (map digitText s) s 0 s
-texts-none s = seam-none (map digitText s) s (rw (length-map s digitText) (omega arith))
+pub texts-none : (ds out : List ℕ) → length ds ≤ length out → Seam (map digitText ds) out 0 out
+texts-none ds out h = seam-none (map digitText ds) out (rw (length-map ds digitText) h)
 
-module _ {s₀ s : List ℕ} {i : ℕ} (g : Seam (map digitText s₀) s₀ i s) where
-  inside : i < length s → i < length s₀
-  inside h = omega (arith, g .long)
+module _ (ds : List ℕ) {i : ℕ} where
+  pub next-digit : T (all isDigit ds) → i < length ds → getD ds i 0 < 16
+  next-digit t h = omega (arith, leb→le (getD ds i 0) 15 (all-place isDigit ds 0 i t h))
 
-  not-yet : i < length s → getD s i 0 ≡ getD s₀ i 0
-  not-yet h = rw (g .bytes) (simp add-zero at (past-seam (map digitText s₀) s₀ i 0 (g .below) (omega (arith, inside h))))
+  pub texts-more : {out s : List ℕ} {v : ℕ} → Seam (map digitText ds) out i s → i < length ds → v ≡ digitText (getD ds i 0)
+      → Seam (map digitText ds) out (i + 1) (set s i v)
+  texts-more {out} {s} {v} g h e = seam-more v g (rw (length-map ds digitText) h) (e ∙ sym (text-at ds i h))
 
-  pub next-digit : T (all isDigit s₀) → i < length s → getD s i 0 < 16
-  next-digit t h = rw (not-yet h) (omega (arith, leb→le (getD s₀ i 0) 15 (all-place isDigit s₀ 0 i t (inside h))))
+  pub texts-all : {out s : List ℕ} → Seam (map digitText ds) out i s → length ds ≤ i → s ≡ writtenOver (map digitText ds) out
+  texts-all g h = seam-all g (rw (length-map ds digitText) h)
 
-  pub texts-more : {v : ℕ} → i < length s → v ≡ digitText (getD s i 0) → Seam (map digitText s₀) s₀ (i + 1) (set s i v)
-  texts-more {v} h e =
-      seam-more v g (rw (length-map s₀ digitText) (inside h)) (e ∙ rw (not-yet h, text-at s₀ i (inside h)))
+-- EIGHT AT A TIME
 
-  pub texts-all : length s ≤ i → s ≡ map digitText s₀
-  texts-all h =
-      let l : length (map digitText s₀) ≡ length s₀ = length-map s₀ digitText in
-      seam-whole g (omega (arith, l, g .long)) (omega (arith, l))
+-- the eight digits from place j on, as a writer is lent them
+abbrev pub blockAt : ℕ → List ℕ → List ℕ
+blockAt j ds = take 8 (take (length ds - j) (drop j ds))
 
--- THE DIGITS AT THE FRONT OF A BUFFER
+pub block-digits : (j : ℕ) (ds : List ℕ) → T (all isDigit ds) → T (all isDigit (blockAt j ds))
+block-digits j ds t = all-take isDigit 8 (take (length ds - j) (drop j ds)) (all-take isDigit (length ds - j) (drop j ds) (all-drop isDigit j ds t))
 
--- the first n bytes as text
-front-text : (n : ℕ) (out last : List ℕ) → n ≤ length out → last ≡ map digitText (midOf 0 (n - 0) out)
-    → Writes (map digitText (take n out)) out (putMid 0 (n - 0) out last) n
-front-text n out last h e =
-    let l : length (map digitText (take n out)) ≡ n = length-map (take n out) digitText ∙ length-take-le n out h in
-    record { count-is = sym l; buffer-is = rw (e, sub-zero, l); inside = h }
+pub block-written : (j : ℕ) (ds : List ℕ) {out s : List ℕ} {i : ℕ} → Seam (map digitText ds) out i s → j ≤ i → i ≤ j + 8 → j + 8 ≤ length ds
+    → {last : List ℕ} → last ≡ writtenOver (map digitText (blockAt j ds)) (midOf j (length s - j) s)
+    → Seam (map digitText ds) out (j + 8) (putMid j (length s - j) s last)
+block-written j ds {out} {s} {i} g seen new inside {last} e =
+    let b : map digitText (blockAt j ds) ≡ take 8 (drop j (map digitText ds)) =
+    map-take digitText 8 (take (length ds - j) (drop j ds)) ∙ rw (map-take, map-drop, take-take 8 (length ds - j) (drop j (map digitText ds)) (omega arith)) in
+    seam-block g j 8 seen new (rw (length-map ds digitText) inside) (e ∙ ap (λ (x : List ℕ). writtenOver x (midOf j (length s - j) s)) b)
+
+-- THE DIGITS AND THE BYTE BEHIND THEM
 
 digits-some : (none : ℕ) (ds : List ℕ) → 0 < length ds → digitsOr none ds ≡ map digitText ds
 digits-some none [] h = absurd (not-suc-le-zero h)
 digits-some none (d ∷ ds) h = refl
 
--- with the byte behind them
-module _ (n none behind : ℕ) (out : List ℕ) where
-  pub no-digits : n ≡ 0 → 2 ≤ length out → Writes (digitsOr none (take n out) ++ behind ∷ []) out (set (set out 0 none) 1 behind) 2
-  no-digits e h = named (rw e) (stored (none ∷ behind ∷ []) out h)
+no-list : (ds : List ℕ) → length ds ≡ 0 → ds ≡ []
+no-list [] e = refl
+no-list (d ∷ ds) e = absurd (omega (arith, e))
 
-  pub some-digits : (n ≡ 0 → ⊥) → n < length out → {last : List ℕ} → last ≡ map digitText (midOf 0 (n - 0) out)
-      → Writes (digitsOr none (take n out) ++ behind ∷ []) out (set (putMid 0 (n - 0) out last) n behind) (n + 1)
-  some-digits z h {last} e =
-      let k : 0 < length (take n out) = rw (length-take-le n out (omega arith)) (omega (arith, z)) in
-      named (rw (digits-some none (take n out) k)) (byte-behind (front-text n out last (omega arith) e) behind h)
+module _ (none behind : ℕ) (ds out : List ℕ) where
+  pub no-digits : length ds ≡ 0 → 2 ≤ length out → Writes (digitsOr none ds ++ behind ∷ []) out (set (set out 0 none) 1 behind) 2
+  no-digits e h = named (rw (no-list ds e)) (stored (none ∷ behind ∷ []) out h)
+
+  pub some-digits : (length ds ≡ 0 → ⊥) → length ds < length out → {after : List ℕ} → after ≡ writtenOver (map digitText ds) out
+      → Writes (digitsOr none ds ++ behind ∷ []) out (set after (length ds) behind) (length ds + 1)
+  some-digits z h {after} e =
+      let l : length (map digitText ds) ≡ length ds = length-map ds digitText in
+      let w : Writes (map digitText ds) out after (length ds) = record { count-is = sym l; buffer-is = e; inside = omega arith } in
+      named (rw (digits-some none ds (omega (arith, z)))) (byte-behind w behind h)
 
 pub digits-short : (none behind : ℕ) (ds : List ℕ) → length (digitsOr none ds ++ behind ∷ []) ≤ length ds + 2
 digits-short none behind [] = omega arith
 digits-short none behind (d ∷ ds) = rw (length-append, length-map) (omega arith)
-
-digits-long : (none behind : ℕ) (ds : List ℕ) → length ds ≤ length (digitsOr none ds ++ behind ∷ [])
-digits-long none behind [] = omega arith
-digits-long none behind (d ∷ ds) = rw (length-append, length-map) (omega arith)
-
--- digits that were copied to the front, or stand behind what was written
-module _ {xs out after : List ℕ} {n : ℕ} (w : Writes xs out after n) where
-  pub copied-digits : T (all isDigit xs) → T (all isDigit (take n after))
-  copied-digits t = rw (front-is w) t
-
-  pub kept-digits : (k : ℕ) → T (all isDigit (part n k out)) → T (all isDigit (take k (midOf n (length after - n) after)))
-  kept-digits k t = rw (rest-is w) t
 
 -- by document 01's names
 pub digits-is : (ds : List ℕ) → digitsOr 45 ds ≡ digitsText ds
@@ -103,11 +99,3 @@ digits-is (d ∷ ds) = refl
 pub prefix-is : (ds : List ℕ) → digitsOr 42 ds ≡ prefixText ds
 prefix-is [] = refl
 prefix-is (d ∷ ds) = refl
-
--- a prefix that was copied to the front and then made text
-pub prefix-written : {xs out after last : List ℕ} {n m : ℕ} → Writes xs out after n → Writes (digitsOr 42 (take n after) ++ 32 ∷ []) after last m
-    → Writes (prefixText xs ++ 32 ∷ []) out last m
-prefix-written {xs} {out} {after} {last} {n} {m} w v =
-    let l : length (take n after) ≡ n = length-take-le n after (omega (arith, w .inside, kept-long w)) in
-    let k : n ≤ m = omega (arith, l, digits-long 42 32 (take n after), v .count-is) in
-    named (rw (front-is w, prefix-is)) (again w v k)

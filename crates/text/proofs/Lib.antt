@@ -1,3 +1,4 @@
 pub mod Lines
+pub mod EightDigits
 pub mod DigitTexts
 pub mod LineTexts

@@ -8,11 +8,10 @@ use native.Mathlib.Omega.{arith}
 use lib.Dec.{T}
 use lib.ListN.{length, take, set, length-append, length-take}
 use borrow.Author.Tests.{eq-eqb, ne-eqb}
-use borrow.Rule.Slice.PartMut.{midOf}
 use Rattle.meaning.specs.Basics.{if_then_else_, all, isDigit}
 use Rattle.meaning.specs.Answer.{Answer}
 use Rattle.meaning.specs.Answers.{numberOfRefusal, numberOfProvisioned, countOf}
-use Rattle.meaning.specs.Records.{decimal, digitsText, prefixText, lengthText, okLine, noLine, acceptedLine, numberLine, refsLine, listedLine, endLine}
+use Rattle.meaning.specs.Records.{decimal, prefixText, lengthText, okLine, noLine, acceptedLine, numberLine, refsLine, listedLine, endLine}
 use Rattle.meaning.specs.declared.Answered.{Answered}
 use Rattle.meaning.specs.declared.ListedRule.{ListedRule}
 use Rattle.meaning.specs.declared.Provisioned.{Provisioned}
@@ -21,8 +20,8 @@ use Rattle.meaning.specs.declared.Counted.{Counted}
 use Rattle.meaning.specs.declared.Counted.the-variants.{Rules, Refused as NotCounted}
 use Rattle.meaning.specs.declared.Refusal.{Refusal}
 use Rattle.meaning.specs.declared.Refusal.the-variants.{Cut, Kind, Plan, Room, Range, Groups, Taken, Absent, Misfit, Full, InUse, Short, Long}
-use Rattle.text.specs.Writes.{Writes, digitsOr, listedOf, ListedIn, answerIn, digitsIn, NumberIn, headText}
-use Rattle.text.proofs.Lines.{decimal-one, number-short, stored, named, rest-is}
+use Rattle.text.specs.Writes.{Writes, digitsOr, listedOf, ListedIn, answerIn, NumberIn, headText}
+use Rattle.text.proofs.Lines.{decimal-one, number-short, stored, named}
 use Rattle.text.proofs.DigitTexts.{digits-short, digits-is, prefix-is}
 
 -- REFUSALS AND COUNTS
@@ -125,13 +124,9 @@ pub refused-is : (a : Answer) → a .refusal ≢ 0 → noLine (a .refusal) ≡ n
 unfolding numberLine
 refused-is a n = rw (ne-eqb (a .refusal) 0 n)
 
--- the head, and the digits that stand behind it
-abbrev headOf : Answered → List ℕ
-headOf a = headText (a .outcome) (a .class) (a .response) (a .count)
-
-pub answered-is : (a : Answered) {out after : List ℕ} → NumberIn a out → a .refusal ≡ 0 → Writes (headOf a) out after 8
-    → headOf a ++ (digitsOr 45 (take (a .digits) (midOf 8 (length after - 8) after)) ++ 10 ∷ []) ≡ numberLine (answerIn a (digitsIn a out))
+-- the head, and the digits behind it
+pub answered-is : (a : Answered) (ds : List ℕ) → NumberIn a ds → a .refusal ≡ 0
+    → headText (a .outcome) (a .class) (a .response) (a .count) ++ (digitsOr 45 ds ++ 10 ∷ []) ≡ numberLine (answerIn a ds)
 unfolding numberLine headText
-answered-is a {out} {after} i e w =
-    let d : digitsOr 45 (take (a .digits) (midOf 8 (length after - 8) after)) ≡ digitsText (digitsIn a out) = rw (rest-is w) (digits-is (digitsIn a out)) in
-    rw (d, eq-eqb (a .refusal) 0 e, decimal-one (a .outcome) (i .outcome), decimal-one (a .class) (i .class), decimal-one (a .response) (i .response), decimal-one (a .count) (i .count))
+answered-is a ds i e =
+    rw (digits-is ds, eq-eqb (a .refusal) 0 e, decimal-one (a .outcome) (i .outcome), decimal-one (a .class) (i .class), decimal-one (a .response) (i .response), decimal-one (a .count) (i .count))

@@ -119,14 +119,6 @@ module _ {xs out after : List ℕ} {n : ℕ} (w : Writes xs out after n) where
   pub room-behind : (k : ℕ) → k + n ≤ length out → k ≤ length (midOf n (length after - n) after)
   room-behind k h = rw (rest-is, length-drop) (omega arith)
 
-  -- what is written again, over no fewer bytes, is what was written last
-  pub again : {ys last : List ℕ} {m : ℕ} → Writes ys after last m → n ≤ m → Writes ys out last m
-  again {ys} {last} {m} v h =
-      let k : m ≡ n + (m - n) = omega arith in
-      let d : drop m after ≡ drop m out =
-      rw k (sym (drop-drop (m - n) n after) ∙ ap (λ (l : List ℕ). drop (m - n) l) behind-is ∙ drop-drop (m - n) n out) in
-      record { count-is = v .count-is; buffer-is = v .buffer-is ∙ rw (← v .count-is, d); inside = rw (← kept-long) (v .inside) }
-
   -- one byte
   pub byte-behind : (b : ℕ) → n < length out → Writes (xs ++ b ∷ []) out (set after n b) (n + 1)
   byte-behind b h =

@@ -4,7 +4,7 @@ use mathlib.Core.Path.{_≡_}
 use mathlib.Core.List.{List, [], _∷_, map}
 use lib.ListN.{length, take}
 use lib.Dec.{T}
-use Rattle.meaning.specs.Basics.{all, isDigit, writtenOver, part}
+use Rattle.meaning.specs.Basics.{all, isDigit, writtenOver}
 use Rattle.meaning.specs.Answer.{Answer}
 use Rattle.meaning.specs.Reads.{Listed}
 use Rattle.meaning.specs.Records.{digitText}
@@ -38,10 +38,6 @@ pub record ListedIn (r : ListedRule) : Type 0 where
 
 -- NUMBER LINES
 
--- where the outgoing digits stand in the buffer: behind four numbers of one digit, each with a space
-abbrev pub DIGITS-AT : ℕ
-DIGITS-AT = 8
-
 -- the answer that the fields give, with these digits
 abbrev pub answerIn : Answered → List ℕ → Answer
 answerIn a ds =
@@ -55,17 +51,14 @@ answerIn a ds =
       digits = ds;
     }
 
--- the digits of an answer, as they stand in the buffer
-abbrev pub digitsIn : Answered → List ℕ → List ℕ
-digitsIn a out = part DIGITS-AT (a .digits) out
-
-pub record NumberIn (a : Answered) (out : List ℕ) : Type 0 where
+-- what a line has room for, with these digits
+pub record NumberIn (a : Answered) (ds : List ℕ) : Type 0 where
   pub outcome : a .outcome < 10
   pub class : a .class < 10
   pub response : a .response < 10
   pub count : a .count < 10
-  pub few : a .digits ≤ 32
-  pub digits : T (all isDigit (digitsIn a out))
+  pub few : length ds ≤ 32
+  pub digits : T (all isDigit ds)
 
 -- what stands before the digits
 unfoldable pub headText : ℕ → ℕ → ℕ → ℕ → List ℕ

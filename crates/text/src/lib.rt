@@ -4,10 +4,13 @@ ghost use mathlib.Core.List.{_++_, [], _∷_, map};
 ghost use Prim.Native.Nat.{_+_, _≤_, _<_};
 ghost use lib.ListN.{length, take};
 ghost use lib.Dec.{T};
-ghost use Rattle.meaning.specs.Basics.{all, isDigit};
+ghost use Rattle.meaning.specs.Basics.{all, isDigit, writtenOver};
 ghost use Rattle.meaning.specs.Answers.{numberOfProvisioned, countOf};
 ghost use Rattle.meaning.specs.Records.{decimal, digitText, prefixText, lengthText, noLine, acceptedLine, numberLine, refsLine, listedLine, endLine};
-ghost use Rattle.text.specs.Writes.{Writes, LONGEST, digitsOr, listedOf, ListedIn, answerIn, digitsIn, NumberIn, headText};
+ghost use Rattle.blocks.specs.Endian.{bytesOf};
+ghost use Rattle.text.specs.Writes.{Writes, LONGEST, digitsOr, listedOf, ListedIn, answerIn, NumberIn, headText};
+use blocks::eight;
+use blocks::put_eight;
 use buffer::copy;
 use buffer::wide;
 use meaning::Answered;
@@ -18,8 +21,8 @@ use meaning::Provisioned;
 // The most bytes of a line.
 pub const LONGEST_LINE: usize = 41;
 
-// Where the outgoing digits of a number line stand.
-pub const DIGITS_AT: usize = 8;
+// Where the outgoing digits of a number line stand: behind its head.
+const DIGITS_AT: usize = 8;
 
 const SPACE: u8 = b' ';
 
@@ -74,29 +77,65 @@ fn digit_text(d: u8) -> u8
     if d < 10 { b'0' + d } else { b'a' + (d - 10) }
 }
 
-// Each digit becomes its text where it stands.
-fn digits_to_text(s: &mut [u8])
-    requires { ⌜ T (all isDigit (now s)) ⌝ }
-    ensures { λ _. ⌜ now (s .exit) ≡ map digitText (now (s .entry)) ⌝ }
+// Eight digits, a byte each, as their text: a digit above 9 is a letter. No sum carries from one byte to the next.
+fn text_of_eight(x: u64) -> u64
+    requires { ⌜ T (all isDigit (bytesOf 8 x)) ⌝ }
+    ensures { λ r. ⌜ bytesOf 8 r ≡ map digitText (bytesOf 8 x) ⌝ }
+{
+    let letters = (x + 0x0606060606060606) / 16 & 0x0101010101010101;
+    x + 0x3030303030303030 + letters * 39
+}
+
+// The eight digits at the front of one part as text at the front of another; the bytes behind stay.
+fn write_eight(digits: &[u8], out: &mut [u8])
+    requires { ⌜ (8 ≤ length (now digits)) × (8 ≤ length (now out)) × T (all isDigit (take 8 (now digits))) ⌝ }
+    ensures { λ _. ⌜ now (out .exit) ≡ writtenOver (map digitText (take 8 (now (digits .entry)))) (now (out .entry)) ⌝ }
+{
+    put_eight(out, text_of_eight(eight(digits)));
+}
+
+// The digits, one by one, as text at the front of the buffer; the bytes behind stay.
+fn few_to_text(digits: &[u8], out: &mut [u8])
+    requires { ⌜ T (all isDigit (now digits)) × (length (now digits) ≤ length (now out)) ⌝ }
+    ensures { λ _. ⌜ now (out .exit) ≡ writtenOver (map digitText (now (digits .entry))) (now (out .entry)) ⌝ }
 {
     let mut i = 0;
-    while i < s.len() {
-        s[i] = digit_text(s[i]);
+    while i < digits.len() {
+        out[i] = digit_text(digits[i]);
         i += 1;
     }
 }
 
-// The n digits at the front of the buffer become text where they stand; for none of them a byte is put there. Then the byte behind.
-fn write_digits(n: usize, none: u8, behind: u8, out: &mut [u8]) -> usize
-    requires { ⌜ (n < length (now out)) × (2 ≤ length (now out)) × T (all isDigit (take n (now out))) ⌝ }
-    ensures { λ r. ⌜ Writes (digitsOr none (take n (now (out .entry))) ++ behind ∷ []) (now (out .entry)) (now (out .exit)) r ⌝ }
+// The same, eight at a time. The last eight overlap what is written already, with the same text.
+fn digits_to_text(digits: &[u8], out: &mut [u8])
+    requires { ⌜ T (all isDigit (now digits)) × (length (now digits) ≤ length (now out)) ⌝ }
+    ensures { λ _. ⌜ now (out .exit) ≡ writtenOver (map digitText (now (digits .entry))) (now (out .entry)) ⌝ }
 {
+    if digits.len() < 8 {
+        few_to_text(digits, out);
+        return;
+    }
+    let last = digits.len() - 8;
+    let mut i: usize = 0;
+    while i < last {
+        write_eight(&digits[i..], &mut out[i..]);
+        i += 8;
+    }
+    write_eight(&digits[last..], &mut out[last..]);
+}
+
+// The digits, or a byte for none of them, and the byte behind.
+fn write_digits(digits: &[u8], none: u8, behind: u8, out: &mut [u8]) -> usize
+    requires { ⌜ T (all isDigit (now digits)) × (length (now digits) < length (now out)) × (2 ≤ length (now out)) ⌝ }
+    ensures { λ r. ⌜ Writes (digitsOr none (now (digits .entry)) ++ behind ∷ []) (now (out .entry)) (now (out .exit)) r ⌝ }
+{
+    let n = digits.len();
     if n == 0 {
         out[0] = none;
         out[1] = behind;
         return 2;
     }
-    digits_to_text(&mut out[0..n]);
+    digits_to_text(digits, out);
     out[n] = behind;
     n + 1
 }
@@ -151,8 +190,7 @@ fn write_prefix(prefix: &[u8], out: &mut [u8]) -> usize
     requires { ⌜ T (all isDigit (now prefix)) × (length (now prefix) + 2 ≤ length (now out)) ⌝ }
     ensures { λ r. ⌜ Writes (prefixText (now (prefix .entry)) ++ 32 ∷ []) (now (out .entry)) (now (out .exit)) r ⌝ }
 {
-    copy(out, prefix);
-    write_digits(prefix.len(), WILDCARD, SPACE, out)
+    write_digits(prefix, WILDCARD, SPACE, out)
 }
 
 // A length or a wildcard, and the space behind it.
@@ -215,10 +253,10 @@ fn write_head(outcome: u8, class: u8, response: u8, count: u8, out: &mut [u8])
     out[7] = SPACE;
 }
 
-// The answer to a number, whose outgoing digits stand in the buffer already, one a byte.
-pub fn number_line(answer: Answered, out: &mut [u8]) -> usize
-    requires { ⌜ NumberIn answer (now out) × (LONGEST ≤ length (now out)) ⌝ }
-    ensures { λ r. ⌜ Writes (numberLine (answerIn answer (digitsIn answer (now (out .entry))))) (now (out .entry)) (now (out .exit)) r ⌝ }
+// The answer to a number, with its outgoing digits.
+pub fn number_line(answer: Answered, digits: &[u8], out: &mut [u8]) -> usize
+    requires { ⌜ NumberIn answer (now digits) × (LONGEST ≤ length (now out)) ⌝ }
+    ensures { λ r. ⌜ Writes (numberLine (answerIn answer (now (digits .entry)))) (now (out .entry)) (now (out .exit)) r ⌝ }
 {
     if answer.refusal != 0 {
         return no_line(answer.refusal, out);
@@ -230,5 +268,5 @@ pub fn number_line(answer: Answered, out: &mut [u8]) -> usize
         answer.count,
         out,
     );
-    DIGITS_AT + write_digits(answer.digits, NO_DIGITS, NEWLINE, &mut out[DIGITS_AT..])
+    DIGITS_AT + write_digits(digits, NO_DIGITS, NEWLINE, &mut out[DIGITS_AT..])
 }

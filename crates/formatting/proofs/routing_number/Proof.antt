@@ -1,6 +1,10 @@
 -- By the lookup's kind.
-use mathlib.Core.Path.{_∙_}
+use mathlib.Core.Path.{sym, ap, _∙_}
+use native.Mathlib.Omega.{arith}
+use Rattle.formatting.specs.Values.{digitsIf}
+use Rattle.formatting.specs.Sources.{settingsIn, lookupIn}
 use Rattle.formatting.proofs.Values.{rn-entity, rn-default, rn-none}
+use Rattle.formatting.proofs.Places.{part-within, kind-in, lies-as, nothing-lies}
 use borrow.Author.Needs.{needs}
 use Rattle.formatting.proofs.routing_number.Statement.{statement}
 use Rattle.formatting.proofs.routing_number.Tie as tie
@@ -8,64 +12,39 @@ use Rattle.formatting.proofs.routing_number.Tie as tie
 shared-slice-read-kind : tie.Need-shared-slice-read-kind
 shared-slice-read-kind c = search needs
 
-sub-digits-if : tie.Need-sub-digits-if
-sub-digits-if c = search needs
-
-part-digits-if-start : tie.Need-part-digits-if-start
-part-digits-if-start c = search needs
-
-part-digits-if-end : tie.Need-part-digits-if-end
-part-digits-if-end c = search needs
-
-digits-if-requires : tie.Need-digits-if-requires
-digits-if-requires c κs = search needs
+string-if-requires : tie.Need-string-if-requires
+string-if-requires c κs = search needs
 
 returns : tie.Need-returns
-returns c = let a = c .before .before .before .before .before .before .args in c .digits-if .ensures ∙ rn-entity (a .settings .now) (a .lookup .now) (a .ported) (c .before .before .if1 .taken)
+returns c =
+    let a = c .before .before .before .before .args in
+    let s = a .source .now in
+    let e = ap (digitsIf (a .ported)) (sym (part-within 1 16 34 39 s (omega arith))) ∙ rn-entity (settingsIn s) (lookupIn s) (a .ported) (kind-in s ∙ c .before .if1 .taken) in
+    lies-as e (c .string-if .ensures)
 
-sub-digits-if-2 : tie.Need-sub-digits-if-2
-sub-digits-if-2 c = search needs
-
-part-digits-if-start-2 : tie.Need-part-digits-if-start-2
-part-digits-if-start-2 c = search needs
-
-part-digits-if-end-2 : tie.Need-part-digits-if-end-2
-part-digits-if-end-2 c = search needs
-
-digits-if-requires-2 : tie.Need-digits-if-requires-2
-digits-if-requires-2 c κs = search needs
+string-if-requires-2 : tie.Need-string-if-requires-2
+string-if-requires-2 c κs = search needs
 
 returns-2 : tie.Need-returns-2
-returns-2 c = let a = c .before .before .before .before .before .before .before .args in c .digits-if2 .ensures ∙ rn-default (a .settings .now) (a .lookup .now) (a .ported) (c .before .before .if2 .taken)
-
-sub-result : tie.Need-sub-result
-sub-result c = search needs
-
-part-result-start : tie.Need-part-result-start
-part-result-start c = search needs
-
-part-result-end : tie.Need-part-result-end
-part-result-end c = search needs
+returns-2 c =
+    let a = c .before .before .before .before .before .args in
+    let s = a .source .now in
+    let e = ap (digitsIf (a .ported)) (sym (part-within 4 16 73 36 s (omega arith))) ∙ rn-default (settingsIn s) (lookupIn s) (a .ported) (kind-in s ∙ c .before .if2 .taken) in
+    lies-as e (c .string-if2 .ensures)
 
 returns-3 : tie.Need-returns-3
-returns-3 c = let a = c .before .before .before .before .before .before .args in rn-none (a .settings .now) (a .lookup .now) (a .ported) (c .before .before .if1 .left) (c .before .if2 .left)
+returns-3 c =
+    let a = c .before .before .before .before .args in
+    let s = a .source .now in
+    lies-as (rn-none (settingsIn s) (lookupIn s) (a .ported) (λ e. c .before .if1 .left (sym (kind-in s) ∙ e)) (λ e. c .if2 .left (sym (kind-in s) ∙ e))) (nothing-lies s)
 
 pub routing-number-spec : {M : Type 1} → statement M
 routing-number-spec =
     tie.close
     (tie.spec
     shared-slice-read-kind
-    sub-digits-if
-    part-digits-if-start
-    part-digits-if-end
-    digits-if-requires
+    string-if-requires
     returns
-    sub-digits-if-2
-    part-digits-if-start-2
-    part-digits-if-end-2
-    digits-if-requires-2
+    string-if-requires-2
     returns-2
-    sub-result
-    part-result-start
-    part-result-end
     returns-3)

@@ -1,6 +1,10 @@
 -- By the lookup's kind.
-use mathlib.Core.Path.{_∙_}
+use mathlib.Core.Path.{sym, ap, _∙_}
+use native.Mathlib.Omega.{arith}
+use Rattle.formatting.specs.Values.{digitsIf}
+use Rattle.formatting.specs.Sources.{lookupIn}
 use Rattle.formatting.proofs.Values.{sp-entity, sp-none}
+use Rattle.formatting.proofs.Places.{part-within, kind-in, lies-as, nothing-lies}
 use borrow.Author.Needs.{needs}
 use Rattle.formatting.proofs.service_provider.Statement.{statement}
 use Rattle.formatting.proofs.service_provider.Tie as tie
@@ -8,44 +12,22 @@ use Rattle.formatting.proofs.service_provider.Tie as tie
 shared-slice-read-if1 : tie.Need-shared-slice-read-if1
 shared-slice-read-if1 c = search needs
 
-sub-digits-if : tie.Need-sub-digits-if
-sub-digits-if c = search needs
-
-part-digits-if-start : tie.Need-part-digits-if-start
-part-digits-if-start c = search needs
-
-part-digits-if-end : tie.Need-part-digits-if-end
-part-digits-if-end c = search needs
-
-digits-if-requires : tie.Need-digits-if-requires
-digits-if-requires c κs = search needs
+string-if-requires : tie.Need-string-if-requires
+string-if-requires c κs = search needs
 
 returns : tie.Need-returns
-returns c = let a = c .before .before .before .before .before .args in c .digits-if .ensures ∙ sp-entity (a .lookup .now) (a .ported) (c .before .before .if1 .taken)
-
-sub-result : tie.Need-sub-result
-sub-result c = search needs
-
-part-result-start : tie.Need-part-result-start
-part-result-start c = search needs
-
-part-result-end : tie.Need-part-result-end
-part-result-end c = search needs
+returns c =
+    let a = c .before .before .before .before .args in
+    let s = a .source .now in
+    let e = ap (digitsIf (a .ported)) (sym (part-within 1 16 34 39 s (omega arith))) ∙ sp-entity (lookupIn s) (a .ported) (kind-in s ∙ c .before .if1 .taken) in
+    lies-as e (c .string-if .ensures)
 
 returns-2 : tie.Need-returns-2
-returns-2 c = let a = c .before .before .before .before .args in sp-none (a .lookup .now) (a .ported) (c .before .if1 .left)
+returns-2 c =
+    let a = c .before .before .before .args in
+    let s = a .source .now in
+    lies-as (sp-none (lookupIn s) (a .ported) (λ e. c .if1 .left (sym (kind-in s) ∙ e))) (nothing-lies s)
 
 pub service-provider-spec : {M : Type 1} → statement M
 service-provider-spec =
-    tie.close
-    (tie.spec
-    shared-slice-read-if1
-    sub-digits-if
-    part-digits-if-start
-    part-digits-if-end
-    digits-if-requires
-    returns
-    sub-result
-    part-result-start
-    part-result-end
-    returns-2)
+    tie.close (tie.spec shared-slice-read-if1 string-if-requires returns returns-2)

@@ -1,9 +1,13 @@
 -- Each arm is an entry of the definition's table, and the last is past it.
 use Prim.Native.Nat.{_-_, _≤_}
+use mathlib.Core.Path.{sym, ap}
+use native.Mathlib.Omega.{arith}
 use lib.ListN.{List·getD-eq-default}
+use Rattle.meaning.specs.Basics.{digitsOf}
 use Rattle.meaning.specs.Settings.{settingsOf, lookupOf}
-use Rattle.formatting.specs.Values.{serviceValue}
+use Rattle.formatting.specs.Values.{digitsIf, serviceValue}
 use Rattle.formatting.proofs.Values.{past-values}
+use Rattle.formatting.proofs.Places.{part-within, lies-as, nothing-lies}
 use borrow.Author.Needs.{needs}
 use Rattle.formatting.proofs.service_value.Statement.{statement}
 use Rattle.formatting.proofs.service_value.Tie as tie
@@ -14,62 +18,17 @@ routing-number-requires c κs = search needs
 service-provider-requires : tie.Need-service-provider-requires
 service-provider-requires c κs = search needs
 
-sub-digits-if : tie.Need-sub-digits-if
-sub-digits-if c = search needs
+string-if-requires : tie.Need-string-if-requires
+string-if-requires c κs = search needs
 
-part-digits-if-start : tie.Need-part-digits-if-start
-part-digits-if-start c = search needs
+string-if-requires-2 : tie.Need-string-if-requires-2
+string-if-requires-2 c κs = search needs
 
-part-digits-if-end : tie.Need-part-digits-if-end
-part-digits-if-end c = search needs
+string-at-requires : tie.Need-string-at-requires
+string-at-requires c κs = search needs
 
-digits-if-requires : tie.Need-digits-if-requires
-digits-if-requires c κs = search needs
-
-sub-digits-if-2 : tie.Need-sub-digits-if-2
-sub-digits-if-2 c = search needs
-
-part-digits-if-start-2 : tie.Need-part-digits-if-start-2
-part-digits-if-start-2 c = search needs
-
-part-digits-if-end-2 : tie.Need-part-digits-if-end-2
-part-digits-if-end-2 c = search needs
-
-digits-if-requires-2 : tie.Need-digits-if-requires-2
-digits-if-requires-2 c κs = search needs
-
-sub-digits-of : tie.Need-sub-digits-of
-sub-digits-of c = search needs
-
-part-digits-of-start : tie.Need-part-digits-of-start
-part-digits-of-start c = search needs
-
-part-digits-of-end : tie.Need-part-digits-of-end
-part-digits-of-end c = search needs
-
-digits-of-requires : tie.Need-digits-of-requires
-digits-of-requires c κs = search needs
-
-sub-digits-of-2 : tie.Need-sub-digits-of-2
-sub-digits-of-2 c = search needs
-
-part-digits-of-start-2 : tie.Need-part-digits-of-start-2
-part-digits-of-start-2 c = search needs
-
-part-digits-of-end-2 : tie.Need-part-digits-of-end-2
-part-digits-of-end-2 c = search needs
-
-digits-of-requires-2 : tie.Need-digits-of-requires-2
-digits-of-requires-2 c κs = search needs
-
-sub-result : tie.Need-sub-result
-sub-result c = search needs
-
-part-result-start : tie.Need-part-result-start
-part-result-start c = search needs
-
-part-result-end : tie.Need-part-result-end
-part-result-end c = search needs
+string-at-requires-2 : tie.Need-string-at-requires-2
+string-at-requires-2 c κs = search needs
 
 returns : tie.Need-returns
 unfolding serviceValue
@@ -81,26 +40,35 @@ returns-2 c = rw (c .before .match .keys2) (c .service-provider .ensures)
 
 returns-3 : tie.Need-returns-3
 unfolding serviceValue lookupOf
-returns-3 c = rw (c .before .before .match .keys3) (c .digits-if .ensures)
+returns-3 c =
+    let a = c .before .before .before .args in
+    rw (c .before .match .keys3) (lies-as (ap (digitsIf (a .served .asd)) (sym (part-within 17 11 34 39 (a .source .now) (omega arith)))) (c .string-if .ensures))
 
 returns-4 : tie.Need-returns-4
 unfolding serviceValue lookupOf
-returns-4 c = rw (c .before .before .match .keys4) (c .digits-if2 .ensures)
+returns-4 c =
+    let a = c .before .before .before .args in
+    rw (c .before .match .keys4) (lies-as (ap (digitsIf (a .served .grn)) (sym (part-within 28 11 34 39 (a .source .now) (omega arith)))) (c .string-if2 .ensures))
 
 returns-5 : tie.Need-returns-5
 unfolding serviceValue settingsOf
-returns-5 c = rw (c .before .before .match .keys5) (c .digits-of .ensures)
+returns-5 c =
+    let a = c .before .before .before .args in
+    rw (c .before .match .keys5) (lies-as (ap digitsOf (sym (part-within 20 6 73 36 (a .source .now) (omega arith)))) (c .string-at .ensures))
 
 returns-6 : tie.Need-returns-6
 unfolding serviceValue settingsOf
-returns-6 c = rw (c .before .before .match .keys6) (c .digits-of2 .ensures)
+returns-6 c =
+    let a = c .before .before .before .args in
+    rw (c .before .match .keys6) (lies-as (ap digitsOf (sym (part-within 26 6 73 36 (a .source .now) (omega arith)))) (c .string-at2 .ensures))
 
 returns-7 : tie.Need-returns-7
 unfolding serviceValue
 returns-7 c =
-    let r = c .before .match .rest in
-    let h : 6 ≤ c .before .before .before .before .args .f - 11 = past-values _ (search needs) (r .0 .0 .0 .0 .0 .1) (r .0 .0 .0 .0 .1) (r .0 .0 .0 .1) (r .0 .0 .1) (r .0 .1) (r .1) in
-    rw List·getD-eq-default
+    let a = c .before .before .args in
+    let r = c .match .rest in
+    let h : 6 ≤ a .f - 11 = past-values _ (c .before .before .pre .1) (r .0 .0 .0 .0 .0 .1) (r .0 .0 .0 .0 .1) (r .0 .0 .0 .1) (r .0 .0 .1) (r .0 .1) (r .1) in
+    rw List·getD-eq-default (nothing-lies (a .source .now))
 
 pub service-value-spec : {M : Type 1} → statement M
 service-value-spec =
@@ -108,25 +76,10 @@ service-value-spec =
     (tie.spec
     routing-number-requires
     service-provider-requires
-    sub-digits-if
-    part-digits-if-start
-    part-digits-if-end
-    digits-if-requires
-    sub-digits-if-2
-    part-digits-if-start-2
-    part-digits-if-end-2
-    digits-if-requires-2
-    sub-digits-of
-    part-digits-of-start
-    part-digits-of-end
-    digits-of-requires
-    sub-digits-of-2
-    part-digits-of-start-2
-    part-digits-of-end-2
-    digits-of-requires-2
-    sub-result
-    part-result-start
-    part-result-end
+    string-if-requires
+    string-if-requires-2
+    string-at-requires
+    string-at-requires-2
     returns
     returns-2
     returns-3

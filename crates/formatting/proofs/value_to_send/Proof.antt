@@ -1,6 +1,7 @@
 -- By the code.
-use mathlib.Core.Path.{_∙_}
+use Rattle.formatting.specs.Sources.{settingsIn, lookupIn, digitsIn}
 use Rattle.formatting.proofs.Values.{sent-conditioned, sent-served}
+use Rattle.formatting.proofs.Places.{lies-as}
 use borrow.Author.Needs.{needs}
 use Rattle.formatting.proofs.value_to_send.Statement.{statement}
 use Rattle.formatting.proofs.value_to_send.Tie as tie
@@ -10,16 +11,18 @@ conditioned-value-requires c κs = search needs
 
 returns : tie.Need-returns
 returns c =
-    let a = c .before .before .before .before .before .before .args in
-    c .conditioned-value .ensures ∙ sent-conditioned (a .settings .now) (a .lookup .now) (a .digits .now) (a .cas .now) (a .prefix) (a .served) (a .f) (c .before .if1 .taken)
+    let a = c .before .before .before .before .args in
+    let s = a .source .now in
+    lies-as (sent-conditioned (settingsIn s) (lookupIn s) (digitsIn (a .n) s) (a .cas .now) (a .prefix) (a .served) (a .f) (c .before .if1 .taken)) (c .conditioned-value .ensures)
 
 service-value-requires : tie.Need-service-value-requires
 service-value-requires c κs = search needs
 
 returns-2 : tie.Need-returns-2
 returns-2 c =
-    let a = c .before .before .before .before .before .before .args in
-    c .service-value .ensures ∙ sent-served (a .settings .now) (a .lookup .now) (a .digits .now) (a .cas .now) (a .prefix) (a .served) (a .f) (c .before .if1 .left)
+    let a = c .before .before .before .before .args in
+    let s = a .source .now in
+    lies-as (sent-served (settingsIn s) (lookupIn s) (digitsIn (a .n) s) (a .cas .now) (a .prefix) (a .served) (a .f) (c .before .if1 .left)) (c .service-value .ensures)
 
 pub value-to-send-spec : {M : Type 1} → statement M
 value-to-send-spec =

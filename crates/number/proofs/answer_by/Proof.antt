@@ -1,9 +1,14 @@
 -- Each way gives the answer that document 01 has for it.
-use mathlib.Core.Path.{sym, _∙_}
-use Rattle.number.proofs.Answering.{gives-unserved, gives-refused, given-escaped, given-short, gives-served, serviceable, finishable}
+use mathlib.Core.Path.{refl, sym, _∙_}
+use lib.ListN.{getD}
+use Rattle.number.specs.Answering.{lookupOfBody, digitsOfBody}
+use Rattle.number.proofs.Answering.{digits-long, holds-unserved, holds-refused, given-escaped, given-short, holds-served, serviceable, finishable}
 use borrow.Author.Needs.{needs}
 use Rattle.number.proofs.answer_by.Statement.{statement}
 use Rattle.number.proofs.answer_by.Tie as tie
+
+shared-slice-read-class : tie.Need-shared-slice-read-class
+shared-slice-read-class c = search needs
 
 cas-of-requires : tie.Need-cas-of-requires
 cas-of-requires c κs = search needs
@@ -22,8 +27,8 @@ unserved-requires c κs = search needs
 
 returns : tie.Need-returns
 returns c =
-    let b = c .before .before .before .before .before .before .before .before .before .before .before in
-    gives-unserved _ _ _ _ _ (given-escaped (b .args .settings .now) (b .args .lookup .now) (b .args .class) (b .args .digits .now) (b .args .prefix) (b .args .content .now) _ (c .before .before .before .before .before .cas-of .ensures) _ (c .before .before .before .outgoing-class .ensures) (sym (c .before .before .no-conditioning .ensures) ∙ c .before .if1 .taken)) (c .unserved .ensures)
+    let a = c .before .before .before .before .before .before .before .before .before .before .before .args in
+    holds-unserved _ _ _ _ _ (given-escaped (a .settings .now) (lookupOfBody (a .body .now)) (getD (a .body .now) 0 0) (digitsOfBody (a .n) (a .body .now)) (a .prefix) (a .content .now) _ (c .before .before .before .before .before .cas-of .ensures) _ (c .before .before .before .outgoing-class .ensures) (sym (c .before .before .no-conditioning .ensures) ∙ c .before .if1 .taken)) (c .unserved .ensures)
 
 is-short-requires : tie.Need-is-short-requires
 is-short-requires c κs = search needs
@@ -34,33 +39,51 @@ refused-requires c κs = search needs
 returns-2 : tie.Need-returns-2
 returns-2 c =
     let b = c .before .before .before .before .before .before .before .before .before .before .before .before .before in
-    gives-refused _ _ _ _ (given-short (b .args .settings .now) (b .args .lookup .now) (b .args .class) (b .args .digits .now) (b .args .prefix) (b .args .content .now) _ (c .before .before .before .before .before .before .before .cas-of .ensures) _ (c .before .before .before .before .before .outgoing-class .ensures) (sym (c .before .before .before .before .no-conditioning .ensures) ∙ c .before .before .before .if1 .left) (sym (c .before .before .is-short .ensures) ∙ c .before .if2 .taken)) (c .refused .ensures)
+    let a = b .args in
+    let short = sym (c .before .before .is-short .ensures) ∙ c .before .if2 .taken in
+    holds-refused _ _ _ _ (given-short (a .settings .now) (lookupOfBody (a .body .now)) (getD (a .body .now) 0 0) (digitsOfBody (a .n) (a .body .now)) (a .prefix) (a .content .now) _ (c .before .before .before .before .before .before .before .cas-of .ensures) _ (c .before .before .before .before .before .outgoing-class .ensures) (sym (c .before .before .before .before .no-conditioning .ensures) ∙ c .before .before .before .if1 .left) (rw (digits-long (a .body .now) (a .n) (b .pre .body-long) (b .pre .few)) short)) (c .refused .ensures)
 
 sas-of-requires : tie.Need-sas-of-requires
 sas-of-requires c κs = search needs
 
+sub-service-stage : tie.Need-sub-service-stage
+sub-service-stage c = search needs
+
+part-service-stage-start : tie.Need-part-service-stage-start
+part-service-stage-start c = search needs
+
+part-service-stage-end : tie.Need-part-service-stage-end
+part-service-stage-end c = search needs
+
 service-stage-requires : tie.Need-service-stage-requires
-service-stage-requires c κs = let b = c .before .before .before .before .before .before .before .before .before .before .before .before .before in serviceable (b .args .settings .now) (b .args .lookup .now) (b .args .digits .now) (b .args .content .now) (b .args .out .now) (b .pre) _ (c .sas-of .ensures)
+service-stage-requires c κs =
+    let b = c .before .before .before .before .before .before .before .before .before .before .before .before .before .before in
+    serviceable (b .args .settings .now) (b .args .body .now) (b .args .n) (b .args .content .now) (b .args .out .now) (b .pre) _ _ (c .before .sas-of .ensures) refl
 
 fas-of-requires : tie.Need-fas-of-requires
 fas-of-requires c κs = search needs
 
 finish-requires : tie.Need-finish-requires
-finish-requires c κs = let b = c .before .before .before .before .before .before .before .before .before .before .before .before .before .before .before .before in finishable (b .args .settings .now) (b .args .lookup .now) (b .args .digits .now) (b .args .content .now) (b .args .out .now) (b .pre) _ _ (b .args .prefix) (c .before .fas-of .ensures) (sym (c .before .before .before .before .before .is-short .ensures) ∙ c .before .before .before .before .if2 .left)
+finish-requires c κs =
+    let b = c .before .before .before .before .before .before .before .before .before .before .before .before .before .before .before .before .before in
+    finishable (b .args .settings .now) (b .args .body .now) (b .args .n) (b .args .content .now) (b .args .out .now) (b .pre) _ (b .args .prefix) (sym (c .before .before .before .before .before .before .is-short .ensures) ∙ c .before .before .before .before .before .if2 .left)
 
 same-length : tie.Need-same-length
 same-length c = search needs
 
 returns-3 : tie.Need-returns-3
 returns-3 c =
-    let b = c .before .before .before .before .before .before .before .before .before .before .before .before .before .before .before .before .before .before .before in
-    gives-served (b .args .settings .now) (b .args .lookup .now) (b .args .class) (b .args .digits .now) (b .args .prefix) (b .args .content .now) _ (c .before .before .before .before .before .before .before .before .before .before .before .before .before .cas-of .ensures) _ (c .before .before .before .before .before .before .before .before .before .before .before .outgoing-class .ensures) (sym (c .before .before .before .before .before .before .before .before .before .before .no-conditioning .ensures) ∙ c .before .before .before .before .before .before .before .before .before .if1 .left) (sym (c .before .before .before .before .before .before .before .before .is-short .ensures) ∙ c .before .before .before .before .before .before .before .if2 .left)
-    _ _ (c .before .before .before .before .before .before .sas-of .ensures) (c .before .before .before .before .fas-of .ensures) _ (c .before .before .before .before .before .service-stage .ensures) _ _ _ (c .before .before .finish .ensures)
+    let b = c .before .before .before .before .before .before .before .before .before .before .before .before .before .before .before .before .before .before .before .before in
+    let a = b .args in
+    let enough = sym (c .before .before .before .before .before .before .before .before .before .is-short .ensures) ∙ c .before .before .before .before .before .before .before .before .if2 .left in
+    holds-served (a .settings .now) (lookupOfBody (a .body .now)) (getD (a .body .now) 0 0) (digitsOfBody (a .n) (a .body .now)) (a .prefix) (a .content .now) _ (c .before .before .before .before .before .before .before .before .before .before .before .before .before .before .cas-of .ensures) _ (c .before .before .before .before .before .before .before .before .before .before .before .before .outgoing-class .ensures) (sym (c .before .before .before .before .before .before .before .before .before .before .before .no-conditioning .ensures) ∙ c .before .before .before .before .before .before .before .before .before .before .if1 .left) (rw (digits-long (a .body .now) (a .n) (b .pre .body-long) (b .pre .few)) enough)
+    _ _ (c .before .before .before .before .before .before .before .sas-of .ensures) (c .before .before .before .before .fas-of .ensures) _ (c .before .before .before .before .before .service-stage .ensures) _ _ (c .before .before .finish .ensures)
 
 pub answer-by-spec : {M : Type 1} → statement M
 answer-by-spec =
     tie.close
     (tie.spec
+    shared-slice-read-class
     cas-of-requires
     shared-slice-read-outgoing-class
     outgoing-class-requires
@@ -71,6 +94,9 @@ answer-by-spec =
     refused-requires
     returns-2
     sas-of-requires
+    sub-service-stage
+    part-service-stage-start
+    part-service-stage-end
     service-stage-requires
     fas-of-requires
     finish-requires

@@ -1,5 +1,5 @@
 -- No rule, or the answer by the one chosen.
-use Rattle.number.proofs.Bodies.{placed-at, gives-none}
+use Rattle.number.proofs.Bodies.{placed-at, holds-none}
 use borrow.Author.Needs.{needs}
 use Rattle.number.proofs.answer_known.Statement.{statement}
 use Rattle.number.proofs.answer_known.Tie as tie
@@ -30,7 +30,7 @@ answer-at-requires c κs =
 returns : tie.Need-returns
 returns c =
     let b = c .before .before .before .before .before .before .before .before .before in
-    gives-none (b .args .plan .now) (b .args .body .now) _ (b .args .out .now) (b .pre) (c .before .before .before .before .before .digits-in .ensures) _ (c .before .before .before .choose .ensures) (c .before .enum-told .given .1) _ (c .unserved .ensures)
+    holds-none (b .args .plan .now) (b .args .body .now) _ (b .args .out .now) (b .pre) (c .before .before .before .before .before .digits-in .ensures) _ (c .before .before .before .choose .ensures) (c .before .enum-told .given .1) _ _ (c .unserved .ensures)
 
 same-length : tie.Need-same-length
 same-length c = search needs

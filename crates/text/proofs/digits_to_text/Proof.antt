@@ -1,31 +1,60 @@
--- At i the digits before i are text and the others are as they were (`Seam`).
-use Prim.Native.Nat.{_-_}
+-- At i the digits before i are written (`Seam`); each block moves the seam behind itself.
+use Prim.Native.Nat.{_-_, _≤_}
 use mathlib.Core.List.{map}
+use native.Mathlib.Omega.{arith}
 use lib.ListN.{length}
 use Rattle.meaning.specs.Records.{digitText}
 use Rattle.buffer.proofs.Moves.{Seam}
-use Rattle.text.proofs.DigitTexts.{texts-none, next-digit, texts-more, texts-all}
+use Rattle.text.proofs.DigitTexts.{texts-none, texts-all, block-digits, block-written}
 use borrow.Author.Needs.{needs}
 use Rattle.text.proofs.digits_to_text.Statement.{statement}
 use Rattle.text.proofs.digits_to_text.Tie as tie
 
 abbrev Inv-loop : tie.InvT-loop
-Inv-loop s₀ i₀ s i = Seam (map digitText s₀) s₀ i s
+Inv-loop digits out₀ last i₀ out i = (i ≤ length digits) × (8 ≤ length digits) × (length digits ≤ length out) × Seam (map digitText digits) out₀ i out
 
 abbrev μ-loop : tie.MeasureT-loop
-μ-loop s₀ i₀ s i = length s₀ - i
+μ-loop digits out₀ last i₀ out i = length digits - i
+
+few-to-text-requires : tie.Need-few-to-text-requires Inv-loop μ-loop
+few-to-text-requires c κs = search needs
+
+same-length : tie.Need-same-length Inv-loop μ-loop
+same-length c = search needs
+
+returns : tie.Need-returns Inv-loop μ-loop
+returns c = search needs
+
+sub-last : tie.Need-sub-last Inv-loop μ-loop
+sub-last c = search needs
 
 loop-holds : tie.Need-loop-holds Inv-loop μ-loop
-loop-holds c = texts-none (c .before .args .s .now)
+loop-holds c =
+    let g = c .before .before .before in
+    (omega arith, omega arith, omega arith, texts-none (g .args .digits .now) (g .args .out .now) (g .pre .1))
 
-slice-read-digit-text : tie.Need-slice-read-digit-text Inv-loop μ-loop
-slice-read-digit-text c = search needs
+sub-write-eight : tie.Need-sub-write-eight Inv-loop μ-loop
+sub-write-eight c = search needs
 
-digit-text-requires : tie.Need-digit-text-requires Inv-loop μ-loop
-digit-text-requires c κs = next-digit (c .before .before .loop .inv) (c .before .before .before .before .pre) (c .before .loop-test .taken)
+part-write-eight-start : tie.Need-part-write-eight-start Inv-loop μ-loop
+part-write-eight-start c = search needs
 
-slice-write-s : tie.Need-slice-write-s Inv-loop μ-loop
-slice-write-s c = search needs
+part-write-eight-end : tie.Need-part-write-eight-end Inv-loop μ-loop
+part-write-eight-end c = search needs
+
+sub-write-eight-2 : tie.Need-sub-write-eight-2 Inv-loop μ-loop
+sub-write-eight-2 c = search needs
+
+part-write-eight-start-2 : tie.Need-part-write-eight-start-2 Inv-loop μ-loop
+part-write-eight-start-2 c = search needs
+
+part-write-eight-end-2 : tie.Need-part-write-eight-end-2 Inv-loop μ-loop
+part-write-eight-end-2 c = search needs
+
+write-eight-requires : tie.Need-write-eight-requires Inv-loop μ-loop
+write-eight-requires c κs =
+    let g = c .before .before .before .before .before .before .before in
+    (search needs, search needs, block-digits (c .before .before .before .loop .i) (g .args .digits .now) (g .pre .0))
 
 add-i : tie.Need-add-i Inv-loop μ-loop
 add-i c = search needs
@@ -34,13 +63,46 @@ loop-less : tie.Need-loop-less Inv-loop μ-loop
 loop-less c = search needs
 
 loop-again : tie.Need-loop-again Inv-loop μ-loop
-loop-again c = texts-more (c .before .before .before .loop .inv) (c .before .before .loop-test .taken) (c .digit-text .ensures)
+loop-again c =
+    let g = c .before .before .before .before .before .before .before .before .before .before in
+    let l = c .before .before .before .before .before .before .loop in
+    let t = c .before .before .before .before .before .loop-test .taken in
+    let w = block-written (l .i) (g .args .digits .now) (l .inv .3) (omega arith) (omega arith) (omega arith) (c .before .before .write-eight .ensures) in
+    (omega arith, l .inv .1, search needs, w)
 
-same-length : tie.Need-same-length Inv-loop μ-loop
-same-length c = search needs
+sub-write-eight-3 : tie.Need-sub-write-eight-3 Inv-loop μ-loop
+sub-write-eight-3 c = search needs
 
-returns : tie.Need-returns Inv-loop μ-loop
-returns c = texts-all (c .before .loop .inv) (c .loop-test .left)
+part-write-eight-start-3 : tie.Need-part-write-eight-start-3 Inv-loop μ-loop
+part-write-eight-start-3 c = search needs
+
+part-write-eight-end-3 : tie.Need-part-write-eight-end-3 Inv-loop μ-loop
+part-write-eight-end-3 c = search needs
+
+sub-write-eight-4 : tie.Need-sub-write-eight-4 Inv-loop μ-loop
+sub-write-eight-4 c = search needs
+
+part-write-eight-start-4 : tie.Need-part-write-eight-start-4 Inv-loop μ-loop
+part-write-eight-start-4 c = search needs
+
+part-write-eight-end-4 : tie.Need-part-write-eight-end-4 Inv-loop μ-loop
+part-write-eight-end-4 c = search needs
+
+write-eight-requires-2 : tie.Need-write-eight-requires-2 Inv-loop μ-loop
+write-eight-requires-2 c κs =
+    let g = c .before .before .before .before .before .before .before in
+    (search needs, search needs, block-digits (length (g .args .digits .now) - 8) (g .args .digits .now) (g .pre .0))
+
+same-length-2 : tie.Need-same-length-2 Inv-loop μ-loop
+same-length-2 c = search needs
+
+returns-2 : tie.Need-returns-2 Inv-loop μ-loop
+returns-2 c =
+    let g = c .before .before .before .before .before .before .before .before .before .before in
+    let l = c .before .before .before .before .before .before .loop in
+    let t = c .before .before .before .before .before .loop-test .left in
+    let ds = g .args .digits .now in
+    texts-all ds (block-written (length ds - 8) ds (l .inv .3) (omega arith) (omega arith) (omega arith) (c .before .before .write-eight2 .ensures)) (omega arith)
 
 pub digits-to-text-spec : {M : Type 1} → statement M
 digits-to-text-spec =
@@ -48,12 +110,27 @@ digits-to-text-spec =
     (tie.spec
     Inv-loop
     μ-loop
+    few-to-text-requires
+    same-length
+    returns
+    sub-last
     loop-holds
-    slice-read-digit-text
-    digit-text-requires
-    slice-write-s
+    sub-write-eight
+    part-write-eight-start
+    part-write-eight-end
+    sub-write-eight-2
+    part-write-eight-start-2
+    part-write-eight-end-2
+    write-eight-requires
     add-i
     loop-less
     loop-again
-    same-length
-    returns)
+    sub-write-eight-3
+    part-write-eight-start-3
+    part-write-eight-end-3
+    sub-write-eight-4
+    part-write-eight-start-4
+    part-write-eight-end-4
+    write-eight-requires-2
+    same-length-2
+    returns-2)

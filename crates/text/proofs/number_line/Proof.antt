@@ -1,9 +1,9 @@
 -- The refusal's line, or the head and the digits behind it.
 use Prim.Native.Nat.{suc}
 use native.Mathlib.Omega.{arith}
-use Rattle.text.specs.Writes.{answerIn, digitsIn}
+use lib.ListN.{length}
+use Rattle.text.specs.Writes.{answerIn}
 use Rattle.text.proofs.Lines.{named, room-behind, text-behind}
-use Rattle.text.proofs.DigitTexts.{kept-digits}
 use Rattle.text.proofs.LineTexts.{refused-is, answered-is}
 use borrow.Author.Needs.{needs}
 use Rattle.text.proofs.number_line.Statement.{statement}
@@ -16,7 +16,9 @@ same-length : tie.Need-same-length
 same-length c = search needs
 
 returns : tie.Need-returns
-returns c = let g = c .before .before .before .before .before .before .before in named (refused-is (answerIn (g .args .answer) (digitsIn (g .args .answer) (g .args .out .now))) (c .before .before .before .before .if1 .taken)) (c .before .before .no-line .ensures)
+returns c =
+    let a = c .before .before .before .before .before .before .before .before .args in
+    named (refused-is (answerIn (a .answer) (a .digits .now)) (c .before .before .before .before .if1 .taken)) (c .before .before .no-line .ensures)
 
 write-head-requires : tie.Need-write-head-requires
 write-head-requires c κs = search needs
@@ -32,9 +34,9 @@ part-write-digits-end c = search needs
 
 write-digits-requires : tie.Need-write-digits-requires
 write-digits-requires c κs =
-    let g = c .before .before .before .before .before .before .before .before in
+    let g = c .before .before .before .before .before .before .before .before .before in
     let w = c .before .before .before .write-head .ensures in
-    (room-behind w (suc (g .args .answer .digits)) (omega (arith, g .pre .0 .few, g .pre .1)), room-behind w 2 (omega (arith, g .pre .1)), kept-digits w (g .args .answer .digits) (g .pre .0 .digits))
+    (g .pre .0 .digits, room-behind w (suc (length (g .args .digits .now))) (omega (arith, g .pre .0 .few, g .pre .1)), room-behind w 2 (omega (arith, g .pre .1)))
 
 add-result : tie.Need-add-result
 add-result c = search needs
@@ -44,9 +46,9 @@ same-length-2 c = search needs
 
 returns-2 : tie.Need-returns-2
 returns-2 c =
-    let g = c .before .before .before .before .before .before .before .before .before .before .before in
+    let g = c .before .before .before .before .before .before .before .before .before .before .before .before in
     let w = c .before .before .before .before .before .before .write-head .ensures in
-    named (answered-is (g .args .answer) (g .pre .0) (c .before .before .before .before .before .before .before .before .if1 .left) w) (text-behind w (c .before .before .write-digits .ensures))
+    named (answered-is (g .args .answer) (g .args .digits .now) (g .pre .0) (c .before .before .before .before .before .before .before .before .if1 .left)) (text-behind w (c .before .before .write-digits .ensures))
 
 pub number-line-spec : {M : Type 1} → statement M
 number-line-spec =

@@ -1,5 +1,6 @@
 -- By whether there are digits.
-use native.Mathlib.Nat.{sub-zero}
+use native.Mathlib.Omega.{arith}
+use lib.ListN.{length-set}
 use Rattle.text.proofs.DigitTexts.{no-digits, some-digits}
 use borrow.Author.Needs.{needs}
 use Rattle.text.proofs.write_digits.Statement.{statement}
@@ -9,25 +10,16 @@ slice-write-out : tie.Need-slice-write-out
 slice-write-out c = search needs
 
 slice-write-out-2 : tie.Need-slice-write-out-2
-slice-write-out-2 c = search needs
+slice-write-out-2 c = simp length-set (omega arith)
 
 same-length : tie.Need-same-length
 same-length c = search needs
 
 returns : tie.Need-returns
-returns c = let a = c .before .before .args in no-digits (a .n) (a .none) (a .behind) (a .out .now) (c .if1 .taken) (c .before .before .pre .1)
-
-sub-digits-to-text : tie.Need-sub-digits-to-text
-sub-digits-to-text c = search needs
-
-part-digits-to-text-start : tie.Need-part-digits-to-text-start
-part-digits-to-text-start c = search needs
-
-part-digits-to-text-end : tie.Need-part-digits-to-text-end
-part-digits-to-text-end c = search needs
+returns c = let a = c .before .before .before .args in no-digits (a .none) (a .behind) (a .digits .now) (a .out .now) (c .if1 .taken) (c .before .before .before .pre .2)
 
 digits-to-text-requires : tie.Need-digits-to-text-requires
-digits-to-text-requires c κs = rw sub-zero (c .before .before .before .pre .2)
+digits-to-text-requires c κs = search needs
 
 slice-write-out-3 : tie.Need-slice-write-out-3
 slice-write-out-3 c = search needs
@@ -40,8 +32,8 @@ same-length-2 c = search needs
 
 returns-2 : tie.Need-returns-2
 returns-2 c =
-    let a = c .before .before .before .before .before .before .args in
-    some-digits (a .n) (a .none) (a .behind) (a .out .now) (c .before .before .before .before .if1 .left) (c .before .before .before .before .before .before .pre .0) (c .before .before .digits-to-text .ensures)
+    let g = c .before .before .before .before .before .before .before in
+    some-digits (g .args .none) (g .args .behind) (g .args .digits .now) (g .args .out .now) (c .before .before .before .before .if1 .left) (g .pre .1) (c .before .before .digits-to-text .ensures)
 
 pub write-digits-spec : {M : Type 1} → statement M
 write-digits-spec =
@@ -51,9 +43,6 @@ write-digits-spec =
     slice-write-out-2
     same-length
     returns
-    sub-digits-to-text
-    part-digits-to-text-start
-    part-digits-to-text-end
     digits-to-text-requires
     slice-write-out-3
     add-result

@@ -1,0 +1,56 @@
+-- Where values are taken from: the body of a number and, behind it, the settings.
+use Prim.Native.Nat.{ℕ, _+_, _≤_}
+use mathlib.Core.Path.{_≡_}
+use mathlib.Core.Bool.{false}
+use mathlib.Core.List.{List, _++_}
+use lib.ListN.{length, drop}
+use Rattle.meaning.specs.Basics.{part}
+use Rattle.meaning.specs.Actions.{casOf}
+use Rattle.meaning.specs.Conditioning.{short}
+use Rattle.meaning.specs.declared.Span.{Span}
+use Rattle.services.specs.declared.Served.{Served}
+use Rattle.formatting.specs.Values.{valueSent}
+
+-- a body of 73 bytes and settings of 36, at the front of a buffer; behind them is room for a block that is taken whole
+unfoldable pub sourceOf : List ℕ → List ℕ → List ℕ → List ℕ
+sourceOf settings body buffer = body ++ (settings ++ drop 109 buffer)
+
+-- what a source has of both
+abbrev pub settingsIn : List ℕ → List ℕ
+settingsIn source = part 73 36 source
+
+abbrev pub lookupIn : List ℕ → List ℕ
+lookupIn source = part 34 39 source
+
+-- the first n digits of the number
+abbrev pub digitsIn : ℕ → List ℕ → List ℕ
+digitsIn n source = part 2 n source
+
+-- document 01's value of an FA, for the number, the lookup and the settings that a source has
+abbrev pub valueIn : List ℕ → ℕ → List ℕ → ℕ → Served → ℕ → List ℕ
+valueIn source n cas prefix served f = valueSent (settingsIn source) (lookupIn source) (digitsIn n source) cas prefix served f
+
+-- a source that has these settings and digits
+pub record Carries (settings digits source : List ℕ) : Type 0 where
+  pub long : length source ≡ 144
+  pub settings-are : settingsIn source ≡ settings
+  pub digits-are : digitsIn (length digits) source ≡ digits
+
+-- a source, and n digits that are enough for the conditioning actions
+pub record Taking (source : List ℕ) (n : ℕ) (cas : List ℕ) (prefix : ℕ) : Type 0 where
+  pub long : length source ≡ 144
+  pub few : n ≤ 32
+  pub enough : short prefix n (casOf cas) ≡ false
+
+-- the place has room behind it for the two blocks that a value may take
+pub record Held (source : List ℕ) (r : Span) : Type 0 where
+  pub long : length source ≡ 144
+  pub low : r .start ≤ 100
+  pub few : r .count ≤ 32
+
+-- r is where the value v lies
+pub record Lies (v source : List ℕ) (r : Span) : Type 0 where
+  pub is : part (r .start) (r .count) source ≡ v
+  pub count : r .count ≡ length v
+  pub low : r .start ≤ 100
+  pub few : r .count ≤ 32
