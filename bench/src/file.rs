@@ -1,5 +1,6 @@
 //! Writes a file of house records: a plan of 64 sets and RULES rules, then
-//! NUMBERS numbers.
+//! NUMBERS numbers. For RULES `any` each class has one rule, which fits any
+//! number, so that the choice costs least.
 //!
 //!     file RULES NUMBERS >FILE
 
@@ -18,8 +19,11 @@ const SETS: u16 = 64;
 
 fn main() -> io::Result<()> {
     let rules = argument(1);
-    let numbers = argument(2);
-    let mut made = Made::full(SETS, rules as u16);
+    let numbers = number(&argument(2));
+    let mut made = match rules.as_str() {
+        "any" => Made::any(SETS),
+        rules => Made::full(SETS, number(rules) as u16),
+    };
     let mut output = BufWriter::new(io::stdout().lock());
     output.write_all(&made.records())?;
     for _ in 0..numbers {
@@ -29,8 +33,12 @@ fn main() -> io::Result<()> {
     output.flush()
 }
 
-fn argument(place: usize) -> usize {
-    let word = std::env::args().nth(place);
-    let number = word.and_then(|word| word.parse().ok());
-    number.expect("usage: file RULES NUMBERS")
+const USAGE: &str = "usage: file RULES NUMBERS";
+
+fn argument(place: usize) -> String {
+    std::env::args().nth(place).expect(USAGE)
+}
+
+fn number(word: &str) -> usize {
+    word.parse().expect(USAGE)
 }

@@ -46,10 +46,31 @@ impl Made {
         Made::of(Rooms { sets, rules }, sets, usize::from(rules))
     }
 
+    /// A plan of so many sets, with a rule for each class that fits any number.
+    pub fn any(sets: u16) -> Made {
+        let mut made = Made::of(Rooms { sets, rules: 6 }, sets, 0);
+        for class in [Class::INTL, Class::NATL, Class::UNKNOWN] {
+            while made.rules.iter().all(|(filter, _)| filter.class != class) {
+                let filter = Filter {
+                    class,
+                    prefix: Vec::new(),
+                    length: None,
+                };
+                let number = SetNumber(made.random.below(usize::from(sets)) as u16);
+                made.add(filter, number);
+            }
+        }
+        made
+    }
+
     /// A rule that is there already, or does not fit, is not added.
     fn try_rule(&mut self) {
         let number = SetNumber(self.random.below(self.plan.sets.len()) as u16);
         let filter = self.filter(number);
+        self.add(filter, number);
+    }
+
+    fn add(&mut self, filter: Filter, number: SetNumber) {
         if self.plan.add_rule(&rule_body(&filter, number)).is_ok() {
             self.rules.push((filter, number));
         }
