@@ -1,6 +1,6 @@
 -- How the loop over the service actions goes on: what is left of the list, from the stage reached, decides.
 use Prim.Native.Nat.{ℕ, _+_, _-_, _≤_, _<_}
-use mathlib.Core.Path.{_≡_, refl, sym, ap, _∙_}
+use mathlib.Core.Path.{_≡_, refl, sym, ap, subst, _∙_}
 use mathlib.Core.Bool.{true, false}
 use mathlib.Core.List.{List, [], _∷_, _++_}
 use native.Mathlib.Omega.{arith}
@@ -96,6 +96,9 @@ module _ {places sas settings lookup : List ℕ} {i : ℕ} {s : Served} (g : Goi
   served-responded h e t =
       let ended : leb 2 (s .response) ≡ true = le-leb 2 (s .response) (omega arith) in
       served-from h (λ fas. rw (e, responded-is, ended))
+
+pub served-as : {places sas settings lookup : List ℕ} {r s : Served} → r ≡ s → ServedFrom places sas settings lookup s → ServedFrom places sas settings lookup r
+served-as {places} {sas} {settings} {lookup} e f = subst (λ (x : Served). ServedFrom places sas settings lookup x) (sym e) f
 
 -- FROM EIGHT ZEROS
 

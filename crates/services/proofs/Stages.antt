@@ -1,5 +1,5 @@
 -- Each action over the struct is document 01's over its stage, and how the loop over the actions goes on.
-use Prim.Native.Nat.{ℕ, _+_, _<_}
+use Prim.Native.Nat.{ℕ, zero, suc, _+_, _<_}
 use mathlib.Core.Path.{_≡_, refl, sym, _∙_}
 use mathlib.Core.Bool.{Bool, true, false, _&&_, _||_, not}
 use mathlib.Core.List.{List, [], _∷_, _++_}
@@ -8,12 +8,14 @@ use native.Mathlib.Omega.{arith}
 use lib.ListN.{length, take, drop, set}
 use lib.Seq.{take-suc-set, drop-set-lt}
 use lib.Dec.{leb, eqb}
+use borrow.Author.Tests.{ne-eqb, le-leb, lt-ltb}
 use Rattle.meaning.specs.Basics.{if_then_else_, isEmpty, contains}
 use Rattle.meaning.specs.Settings.{Settings, Lookup}
 use Rattle.meaning.specs.Actions.{RN, INPRTG, CDPNNP, ASDLKUP, GRNLKUP, CDIAL}
-use Rattle.meaning.specs.Services.{Stage, atStart, inprtg, rnSet, cdpnnp, asdlkup, grnlkup, cdial}
+use Rattle.meaning.specs.Services.{Stage, atStart, inprtg, rnSet, cdpnnp, asdlkup, grnlkup, cdial, carryOut}
 use Rattle.services.specs.declared.Served.{Served}
-use Rattle.services.specs.Stages.{stageOf, withCode, CarriesOut}
+use Rattle.services.specs.declared.Effect.{Effect}
+use Rattle.services.specs.Stages.{stageOf, servedWith, effectAfter, codeListed, CarriesOut, carryingOut}
 
 -- ONE MORE ACTION
 
@@ -49,57 +51,6 @@ rn-again settings lookup fas ported s e = rw e (go (eqb (lookup .kind) 2) (eqb (
     go false false true = refl
     go false false false = refl
 
--- the struct as each function leaves it, its list of actions as t has it
-abbrev stored : Served → ℕ → Bool → Bool → Bool → Bool → Served
-stored t response withheld ported asd grn =
-    record { actions = t .actions; count = t .count; response = response; withheld = withheld; ported = ported; asd = asd; grn = grn }
-
-module _ (s t : Served) (h : s .count < length (s .actions)) where
-  pub carries-inprtg : (kind answer : ℕ) → t ≡ withCode INPRTG s → CarriesOut inprtg kind answer s (stored t answer (t .withheld) (t .ported) (t .asd) (t .grn))
-  unfolding withCode stageOf inprtg
-  carries-inprtg kind answer e =
-      rw e
-      (record { stage = λ settings lookup fas k a. rw (done-more INPRTG s h, k, a); count = refl; behind = behind-stays INPRTG s })
-
-  pub carries-cdpnnp : (kind answer : ℕ) (w : Bool) → t ≡ withCode CDPNNP s → w ≡ (leb kind 1 || s .withheld)
-      → CarriesOut cdpnnp kind answer s (stored t (t .response) w true (t .asd) (t .grn))
-  unfolding withCode stageOf cdpnnp
-  carries-cdpnnp kind answer w e f =
-      rw (e, f)
-      (record {
-        stage =
-            λ settings lookup fas k a.
-            rw (done-more CDPNNP s h, ← k, ← rn-again settings lookup fas (s .ported) (stageOf settings lookup fas s) refl, ← sp-again (eqb (lookup .kind) 3) (s .ported) (lookup .entity));
-        count = refl;
-        behind = behind-stays CDPNNP s;
-      })
-
-  pub carries-asdlkup : (kind answer : ℕ) → t ≡ withCode ASDLKUP s → CarriesOut asdlkup kind answer s (stored t (t .response) (t .withheld) (t .ported) true (t .grn))
-  unfolding withCode stageOf asdlkup
-  carries-asdlkup kind answer e =
-      rw e
-      (record {
-        stage = λ settings lookup fas k a. rw (done-more ASDLKUP s h, ← set-again (isEmpty (lookup .asd)) (s .asd) (lookup .asd) refl);
-        count = refl;
-        behind = behind-stays ASDLKUP s;
-      })
-
-  pub carries-grnlkup : (kind answer : ℕ) → t ≡ withCode GRNLKUP s → CarriesOut grnlkup kind answer s (stored t (t .response) (t .withheld) (t .ported) (t .asd) true)
-  unfolding withCode stageOf grnlkup
-  carries-grnlkup kind answer e =
-      rw e
-      (record {
-        stage = λ settings lookup fas k a. rw (done-more GRNLKUP s h, ← set-again (isEmpty (lookup .grn)) (s .grn) (lookup .grn) refl);
-        count = refl;
-        behind = behind-stays GRNLKUP s;
-      })
-
-  pub carries-cdial : (kind answer : ℕ) → t ≡ withCode CDIAL s → CarriesOut cdial kind answer s (stored t (t .response) false (t .ported) (t .asd) (t .grn))
-  unfolding withCode stageOf cdial
-  carries-cdial kind answer e =
-      rw e
-      (record { stage = λ settings lookup fas k a. rw (done-more CDIAL s h); count = refl; behind = behind-stays CDIAL s })
-
 -- two actions that are the same on every stage
 pub carries-as : {action other : Settings → Lookup → List ℕ → Stage → Stage} {kind answer : ℕ} {s r : Served}
     → ((settings : Settings) (lookup : Lookup) (fas : List ℕ) (x : Stage) → action settings lookup fas x ≡ other settings lookup fas x)
@@ -110,3 +61,82 @@ carries-as {action} {other} {kind} {answer} {s} {r} same o =
       count = o .count;
       behind = o .behind;
     }
+
+-- ONE ACTION, listed behind the others
+
+module _ (actions : List ℕ) (count : ℕ) (e : Effect) (h : count < length actions) where
+  abbrev before : Served
+  before = servedWith actions count e
+
+  -- with what it comes to
+  abbrev after : ℕ → Effect → Served
+  after code r = servedWith (set actions count code) (count + 1) r
+
+  carries-inprtg : (kind answer : ℕ) → CarriesOut inprtg kind answer before (after INPRTG (effectAfter INPRTG kind answer e))
+  unfolding stageOf inprtg effectAfter
+  carries-inprtg kind answer =
+      record { stage = λ settings lookup fas k a. rw (done-more INPRTG before h, k, a); count = refl; behind = behind-stays INPRTG before }
+
+  carries-cdpnnp : (kind answer : ℕ) → CarriesOut cdpnnp kind answer before (after CDPNNP (effectAfter CDPNNP kind answer e))
+  unfolding stageOf cdpnnp effectAfter
+  carries-cdpnnp kind answer =
+      record {
+        stage =
+            λ settings lookup fas k a.
+            rw (done-more CDPNNP before h, ← k, ← rn-again settings lookup fas (e .ported) (stageOf settings lookup fas before) refl, ← sp-again (eqb (lookup .kind) 3) (e .ported) (lookup .entity));
+        count = refl;
+        behind = behind-stays CDPNNP before;
+      }
+
+  carries-asdlkup : (kind answer : ℕ) → CarriesOut asdlkup kind answer before (after ASDLKUP (effectAfter ASDLKUP kind answer e))
+  unfolding stageOf asdlkup effectAfter
+  carries-asdlkup kind answer =
+      record {
+        stage = λ settings lookup fas k a. rw (done-more ASDLKUP before h, ← set-again (isEmpty (lookup .asd)) (e .asd) (lookup .asd) refl);
+        count = refl;
+        behind = behind-stays ASDLKUP before;
+      }
+
+  carries-grnlkup : (kind answer : ℕ) → CarriesOut grnlkup kind answer before (after GRNLKUP (effectAfter GRNLKUP kind answer e))
+  unfolding stageOf grnlkup effectAfter
+  carries-grnlkup kind answer =
+      record {
+        stage = λ settings lookup fas k a. rw (done-more GRNLKUP before h, ← set-again (isEmpty (lookup .grn)) (e .grn) (lookup .grn) refl);
+        count = refl;
+        behind = behind-stays GRNLKUP before;
+      }
+
+  carries-cdial : (kind answer : ℕ) → CarriesOut cdial kind answer before (after CDIAL (effectAfter CDIAL kind answer e))
+  unfolding stageOf cdial effectAfter
+  carries-cdial kind answer =
+      record { stage = λ settings lookup fas k a. rw (done-more CDIAL before h); count = refl; behind = behind-stays CDIAL before }
+
+  -- every other code is carried out as CDIAL
+  other-effect : (code kind answer : ℕ) → CDIAL < code → effectAfter code kind answer e ≡ effectAfter CDIAL kind answer e
+  unfolding effectAfter
+  other-effect code kind answer g =
+      rw (ne-eqb code INPRTG (λ q. omega arith), ne-eqb code CDPNNP (λ q. omega arith), ne-eqb code ASDLKUP (λ q. omega arith), ne-eqb code GRNLKUP (λ q. omega arith), le-leb CDIAL code (omega arith))
+
+  other-listed : (code : ℕ) → CDIAL < code → codeListed code ≡ CDIAL
+  unfolding codeListed
+  other-listed code g = rw (lt-ltb CDIAL code g)
+
+  other-carries : (kind answer code : ℕ) → CDIAL < code → CarriesOut (carryingOut code) kind answer before (after (codeListed code) (effectAfter code kind answer e))
+  unfolding carryOut
+  other-carries kind answer code g =
+      rw (other-listed code g, other-effect code kind answer g)
+      (carries-as
+      (λ settings lookup fas x.
+      rw (ne-eqb code INPRTG (λ q. omega arith), ne-eqb code CDPNNP (λ q. omega arith), ne-eqb code ASDLKUP (λ q. omega arith), ne-eqb code GRNLKUP (λ q. omega arith)))
+      (carries-cdial kind answer))
+
+  -- an action by its code
+  pub carries : (kind answer code : ℕ) → 0 < code → CarriesOut (carryingOut code) kind answer before (after (codeListed code) (effectAfter code kind answer e))
+  unfolding carryOut codeListed
+  carries kind answer zero g = absurd (omega arith)
+  carries kind answer (suc zero) g = carries-as (λ settings lookup fas x. refl) (carries-inprtg kind answer)
+  carries kind answer (suc (suc zero)) g = carries-as (λ settings lookup fas x. refl) (carries-cdpnnp kind answer)
+  carries kind answer (suc (suc (suc zero))) g = carries-as (λ settings lookup fas x. refl) (carries-asdlkup kind answer)
+  carries kind answer (suc (suc (suc (suc zero)))) g = carries-as (λ settings lookup fas x. refl) (carries-grnlkup kind answer)
+  carries kind answer (suc (suc (suc (suc (suc zero))))) g = carries-as (λ settings lookup fas x. refl) (carries-cdial kind answer)
+  carries kind answer (suc (suc (suc (suc (suc (suc n)))))) g = other-carries kind answer (suc (suc (suc (suc (suc (suc n)))))) (omega arith)

@@ -1,15 +1,16 @@
 -- What the service stage's struct says of a stage of document 01, and what its functions promise.
 use Prim.Native.Nat.{ℕ, _+_, _≤_}
 use mathlib.Core.Path.{_≡_}
-use mathlib.Core.Bool.{false, _&&_}
+use mathlib.Core.Bool.{Bool, false, _&&_, _||_}
 use mathlib.Core.List.{List, []}
-use lib.ListN.{length, take, drop, getD, set}
-use lib.Dec.{eqb}
+use lib.ListN.{length, take, drop, getD}
+use lib.Dec.{leb, ltb, eqb}
 use Rattle.meaning.specs.Basics.{if_then_else_, writtenOver}
 use Rattle.meaning.specs.Settings.{Settings, Lookup, settingsOf, lookupOf}
-use Rattle.meaning.specs.Actions.{codesOf}
+use Rattle.meaning.specs.Actions.{INPRTG, CDPNNP, ASDLKUP, GRNLKUP, CDIAL, codesOf}
 use Rattle.meaning.specs.Services.{Stage, atStart, rnSet, carryOut, serve, eightPlaces}
 use Rattle.services.specs.declared.Served.{Served}
+use Rattle.services.specs.declared.Effect.{Effect}
 
 -- the stage: a value is set where its action was carried out, to what the settings and the lookup have
 unfoldable pub stageOf : Settings → Lookup → List ℕ → Served → Stage
@@ -28,18 +29,38 @@ stageOf settings lookup fas s =
 abbrev pub unserved : List ℕ → Served
 unserved places = record { actions = places; count = 0; response = 0; withheld = false; ported = false; asd = false; grn = false }
 
--- one more action listed
-unfoldable pub withCode : ℕ → Served → Served
-withCode code s =
+-- what the actions come to beside their list, before the first
+abbrev pub noEffect : Effect
+noEffect = record { response = 0; withheld = false; ported = false; asd = false; grn = false }
+
+-- so many actions listed, and what they have come to
+abbrev pub servedWith : List ℕ → ℕ → Effect → Served
+servedWith actions count e =
+    record { actions = actions; count = count; response = e .response; withheld = e .withheld; ported = e .ported; asd = e .asd; grn = e .grn }
+
+-- one more action, by its code, field by field
+abbrev pub responseAfter : ℕ → ℕ → ℕ → ℕ
+responseAfter code answer response = if eqb code INPRTG then answer else response
+
+abbrev pub withheldAfter : ℕ → ℕ → Bool → Bool
+withheldAfter code kind withheld = if eqb code CDPNNP then leb kind 1 || withheld else if leb CDIAL code then false else withheld
+
+abbrev pub carriedAfter : ℕ → ℕ → Bool → Bool
+carriedAfter code action carried = eqb code action || carried
+
+unfoldable pub effectAfter : ℕ → ℕ → ℕ → Effect → Effect
+effectAfter code kind answer e =
     record {
-      actions = set (s .actions) (s .count) code;
-      count = s .count + 1;
-      response = s .response;
-      withheld = s .withheld;
-      ported = s .ported;
-      asd = s .asd;
-      grn = s .grn;
+      response = responseAfter code answer (e .response);
+      withheld = withheldAfter code kind (e .withheld);
+      ported = carriedAfter code CDPNNP (e .ported);
+      asd = carriedAfter code ASDLKUP (e .asd);
+      grn = carriedAfter code GRNLKUP (e .grn);
     }
+
+-- the code by which it is listed
+unfoldable pub codeListed : ℕ → ℕ
+codeListed code = if ltb CDIAL code then CDIAL else code
 
 -- r is s with an action of document 01 carried out, for lookups of a kind and settings with an answer for it; places behind stay
 pub record CarriesOut (action : Settings → Lookup → List ℕ → Stage → Stage) (kind answer : ℕ) (s r : Served) : Type 0 where

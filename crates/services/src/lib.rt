@@ -2,9 +2,8 @@
 use actions::code_at;
 use buffer::wide;
 ghost use mathlib.Core.Path.{_≡_};
-ghost use Prim.Native.Nat.{ℕ, _<_};
-ghost use Rattle.meaning.specs.Services.{inprtg, cdpnnp, asdlkup, grnlkup, cdial};
-ghost use Rattle.services.specs.Stages.{unserved, withCode, CarriesOut, carryingOut, Serviceable, ServedFrom, ServedAnew};
+ghost use Prim.Native.Nat.{_≤_};
+ghost use Rattle.services.specs.Stages.{unserved, noEffect, servedWith, responseAfter, withheldAfter, carriedAfter, effectAfter, codeListed, Serviceable, ServedFrom, ServedAnew};
 
 const INPRTG: u8 = 1;
 
@@ -46,86 +45,91 @@ pub fn unserved(places: [u8; 8]) -> Served
     }
 }
 
-// Lists an action at the next place.
-fn listed(mut s: Served, code: u8) -> Served
-    requires { ⌜ s .count < 8 ⌝ }
-    ensures { λ r. ⌜ r ≡ withCode code s ⌝ }
-{
-    let at = wide(s.count);
-    s.actions[at] = code;
-    s.count += 1;
-    s
+// What the actions have come to beside the list of them.
+pub struct Effect {
+    pub response: u8,
+    pub withheld: bool,
+    pub ported: bool,
+    pub asd: bool,
+    pub grn: bool,
 }
+
+// None carried out yet.
+fn no_effect() -> Effect
+    ensures { λ r. ⌜ r ≡ noEffect ⌝ }
+{
+    Effect {
+        response: 0,
+        withheld: false,
+        ported: false,
+        asd: false,
+        grn: false,
+    }
+}
+
+// The first n of eight places list the actions carried out.
+fn served_with(places: [u8; 8], n: usize, e: Effect) -> Served
+    requires { ⌜ n ≤ 8 ⌝ }
+    ensures { λ r. ⌜ r ≡ servedWith places n e ⌝ }
+{
+    Served {
+        actions: places,
+        count: n as u8,
+        response: e.response,
+        withheld: e.withheld,
+        ported: e.ported,
+        asd: e.asd,
+        grn: e.grn,
+    }
+}
+
+// ONE ACTION, by its code. Each field is worked out for whatever code, without a branch to take.
 
 // INPRTG sets the response.
-fn inprtg(s: Served, answer: u8) -> Served
-    requires { ⌜ s .count < 8 ⌝ }
-    ensures { λ r. ⌜ ((kind : ℕ) → CarriesOut inprtg kind answer s r) ⌝ }
+fn response_after(code: u8, answer: u8, response: u8) -> u8
+    ensures { λ r. ⌜ r ≡ responseAfter code answer response ⌝ }
 {
-    let mut t = listed(s, INPRTG);
-    t.response = answer;
-    t
+    if code == INPRTG { answer } else { response }
 }
 
-// CDPNNP sets RN and SP; without an entity it is unsuccessful, and formatting is withheld.
-fn cdpnnp(s: Served, kind: u8) -> Served
-    requires { ⌜ s .count < 8 ⌝ }
-    ensures { λ r. ⌜ ((answer : ℕ) → CarriesOut cdpnnp kind answer s r) ⌝ }
+// CDPNNP without an entity is unsuccessful, and formatting is withheld; CDIAL lifts the withholding.
+fn withheld_after(code: u8, kind: u8, withheld: bool) -> bool
+    ensures { λ r. ⌜ r ≡ withheldAfter code kind withheld ⌝ }
 {
-    let mut t = listed(s, CDPNNP);
-    t.ported = true;
-    t.withheld = kind <= 1 || s.withheld;
-    t
-}
-
-// ASDLKUP sets ASD.
-fn asdlkup(s: Served) -> Served
-    requires { ⌜ s .count < 8 ⌝ }
-    ensures { λ r. ⌜ ((kind answer : ℕ) → CarriesOut asdlkup kind answer s r) ⌝ }
-{
-    let mut t = listed(s, ASDLKUP);
-    t.asd = true;
-    t
-}
-
-// GRNLKUP sets GRN.
-fn grnlkup(s: Served) -> Served
-    requires { ⌜ s .count < 8 ⌝ }
-    ensures { λ r. ⌜ ((kind answer : ℕ) → CarriesOut grnlkup kind answer s r) ⌝ }
-{
-    let mut t = listed(s, GRNLKUP);
-    t.grn = true;
-    t
-}
-
-// CDIAL lifts the withholding.
-fn cdial(s: Served) -> Served
-    requires { ⌜ s .count < 8 ⌝ }
-    ensures { λ r. ⌜ ((kind answer : ℕ) → CarriesOut cdial kind answer s r) ⌝ }
-{
-    let mut t = listed(s, CDIAL);
-    t.withheld = false;
-    t
-}
-
-// One action by its code, for a lookup's kind and INPRTG's answer for it.
-fn carry_out(s: Served, code: u8, kind: u8, answer: u8) -> Served
-    requires { ⌜ s .count < 8 ⌝ }
-    ensures { λ r. ⌜ CarriesOut (carryingOut code) kind answer s r ⌝ }
-{
-    if code == INPRTG {
-        return inprtg(s, answer);
-    }
     if code == CDPNNP {
-        return cdpnnp(s, kind);
+        return kind <= 1 || withheld;
     }
-    if code == ASDLKUP {
-        return asdlkup(s);
+    if CDIAL <= code {
+        return false;
     }
-    if code == GRNLKUP {
-        return grnlkup(s);
+    withheld
+}
+
+// Whether an action was carried out, before or now.
+fn carried_after(code: u8, action: u8, carried: bool) -> bool
+    ensures { λ r. ⌜ r ≡ carriedAfter code action carried ⌝ }
+{
+    code == action || carried
+}
+
+// One action, for a lookup's kind and INPRTG's answer for it: CDPNNP sets RN and SP, ASDLKUP sets ASD, GRNLKUP sets GRN.
+fn carry_out(e: Effect, code: u8, kind: u8, answer: u8) -> Effect
+    ensures { λ r. ⌜ r ≡ effectAfter code kind answer e ⌝ }
+{
+    Effect {
+        response: response_after(code, answer, e.response),
+        withheld: withheld_after(code, kind, e.withheld),
+        ported: carried_after(code, CDPNNP, e.ported),
+        asd: carried_after(code, ASDLKUP, e.asd),
+        grn: carried_after(code, GRNLKUP, e.grn),
     }
-    cdial(s)
+}
+
+// The code by which an action is listed: one above CDIAL is carried out as CDIAL.
+fn code_listed(code: u8) -> u8
+    ensures { λ r. ⌜ r ≡ codeListed code ⌝ }
+{
+    if CDIAL < code { CDIAL } else { code }
 }
 
 // The actions in list order, listed over the eight places passed in.
@@ -135,17 +139,19 @@ pub fn serve(sas: &[u8], settings: &[u8], lookup: &[u8], places: [u8; 8]) -> Ser
 {
     let kind = lookup[0];
     let answer = settings[32 + wide(kind)];
-    let mut s = unserved(places);
+    let mut actions = places;
+    let mut e = no_effect();
     let mut i = 0;
     loop {
         let code = code_at(sas, i);
         if code == 0 {
-            return s;
+            return served_with(actions, i, e);
         }
-        if RELAY < s.response {
-            return s;
+        if RELAY < e.response {
+            return served_with(actions, i, e);
         }
-        s = carry_out(s, code, kind, answer);
+        actions[i] = code_listed(code);
+        e = carry_out(e, code, kind, answer);
         i += 1;
     }
 }

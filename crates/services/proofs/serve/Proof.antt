@@ -1,19 +1,21 @@
 -- What is left of the list, from the stage reached, decides (`Going`).
-use Prim.Native.Nat.{_-_, _≤_}
-use mathlib.Core.Path.{refl, ap}
+use Prim.Native.Nat.{_+_, _-_, _≤_, _<_}
+use mathlib.Core.Path.{_≡_, refl, _∙_}
 use native.Mathlib.Omega.{arith}
-use lib.ListN.{length}
-use Rattle.services.specs.declared.Served.{Served}
-use Rattle.services.proofs.Going.{Going, going-none, going-more, served-all, served-responded}
+use lib.ListN.{length, getD, length-set}
+use Rattle.services.specs.Stages.{servedWith, codeListed}
+use Rattle.services.proofs.Stages.{carries}
+use Rattle.services.proofs.Going.{Going, going-none, going-more, served-as, served-all, served-responded}
 use borrow.Author.Needs.{needs}
 use Rattle.services.proofs.serve.Statement.{statement}
 use Rattle.services.proofs.serve.Tie as tie
 
 abbrev Inv-loop : tie.InvT-loop
-Inv-loop sas settings lookup kind answer s₀ i₀ s i = (i ≤ length sas) × (length sas ≤ 8) × Going (s₀ .actions) sas settings lookup i s
+Inv-loop sas settings lookup kind answer actions₀ e₀ i₀ actions e i =
+    (i ≤ length sas) × (length sas ≤ 8) × (length actions ≡ 8) × Going actions₀ sas settings lookup i (servedWith actions i e)
 
 abbrev μ-loop : tie.MeasureT-loop
-μ-loop sas settings lookup kind answer s₀ i₀ s i = length sas - i
+μ-loop sas settings lookup kind answer actions₀ e₀ i₀ actions e i = length sas - i
 
 shared-slice-read-kind : tie.Need-shared-slice-read-kind Inv-loop μ-loop
 shared-slice-read-kind c = search needs
@@ -27,43 +29,61 @@ add-answer c = search needs
 shared-slice-read-answer : tie.Need-shared-slice-read-answer Inv-loop μ-loop
 shared-slice-read-answer c = search needs
 
-unserved-requires : tie.Need-unserved-requires Inv-loop μ-loop
-unserved-requires c κs = search needs
+no-effect-requires : tie.Need-no-effect-requires Inv-loop μ-loop
+no-effect-requires c κs = search needs
 
 loop-holds : tie.Need-loop-holds Inv-loop μ-loop
 loop-holds c =
     let g = c .before .before .before .before .before .before .before in
-    (search needs, g .pre .few, rw (c .unserved .ensures) (going-none (g .args .places) _ _ _ (search needs)))
+    (search needs, g .pre .few, search needs, rw (c .no-effect .ensures) (going-none (g .args .places) _ _ _ (search needs)))
 
 code-at-requires : tie.Need-code-at-requires Inv-loop μ-loop
 code-at-requires c κs = search needs
 
+served-with-requires : tie.Need-served-with-requires Inv-loop μ-loop
+served-with-requires c κs = search needs
+
 returns : tie.Need-returns Inv-loop μ-loop
 returns c =
-    rw (ap (λ (x : Served). x .actions) (c .before .before .before .unserved .ensures)) at
-    (served-all (c .before .before .loop .inv .2) (search needs) (c .before .code-at .ensures .ends (c .if1 .taken)))
+    let l = c .before .before .before .loop in
+    served-as (c .served-with .ensures) (served-all (l .inv .3) (omega (arith, l .inv .0, l .inv .1)) (c .before .before .code-at .ensures .ends (c .before .if1 .taken)))
+
+served-with-requires-2 : tie.Need-served-with-requires-2 Inv-loop μ-loop
+served-with-requires-2 c κs = search needs
 
 returns-2 : tie.Need-returns-2 Inv-loop μ-loop
 returns-2 c =
-    rw (ap (λ (x : Served). x .actions) (c .before .before .before .before .before .unserved .ensures)) at
-    (served-responded (c .before .before .before .before .loop .inv .2) (search needs) (c .before .before .before .code-at .ensures .goes (c .before .before .if1 .left)) (c .if2 .taken))
+    let l = c .before .before .before .before .before .loop in
+    served-as (c .served-with2 .ensures) (served-responded (l .inv .3) (omega (arith, l .inv .0, l .inv .1)) (c .before .before .before .before .code-at .ensures .goes (c .before .before .before .if1 .left)) (c .before .if2 .taken))
+
+code-listed-requires : tie.Need-code-listed-requires Inv-loop μ-loop
+code-listed-requires c κs = search needs
+
+array-write-actions : tie.Need-array-write-actions Inv-loop μ-loop
+array-write-actions c = let l = c .before .before .before .before .before .loop in omega (arith, l .inv .1, l .inv .2, c .before .before .before .before .code-at .ensures .inside (c .before .before .before .if1 .left))
 
 carry-out-requires : tie.Need-carry-out-requires Inv-loop μ-loop
-carry-out-requires c κs = omega (arith, c .before .before .before .before .loop .inv .2 .at, c .before .before .before .code-at .ensures .inside (c .before .before .if1 .left))
+carry-out-requires c κs = search needs
 
 add-i : tie.Need-add-i Inv-loop μ-loop
-add-i c = omega (arith, c .before .before .before .before .code-at .ensures .inside (c .before .before .before .if1 .left))
+add-i c = omega (arith, c .before .before .before .before .before .code-at .ensures .inside (c .before .before .before .before .if1 .left))
 
 loop-less : tie.Need-loop-less Inv-loop μ-loop
-loop-less c = omega (arith, c .before .before .before .before .code-at .ensures .inside (c .before .before .before .if1 .left))
+loop-less c = omega (arith, c .before .before .before .before .before .code-at .ensures .inside (c .before .before .before .before .if1 .left))
 
 loop-again : tie.Need-loop-again Inv-loop μ-loop
 loop-again c =
-    let l = c .before .before .before .before .before .loop in
-    let r = c .before .before .before .before .code-at .ensures in
-    let n = c .before .before .before .if1 .left in
-    let w = c .before .before .before .before .before .before .before .before .wide .ensures .is in
-    (r .inside n, l .inv .1, going-more (l .inv .2) (r .goes n) (c .before .if2 .left) (search needs) refl (search needs) (rw w) (c .carry-out .ensures))
+    let l = c .before .before .before .before .before .before .loop in
+    let r = c .before .before .before .before .before .code-at .ensures in
+    let n = c .before .before .before .before .if1 .left in
+    let w = c .before .before .before .before .before .before .before .before .before .wide .ensures .is in
+    let g = c .before .before .before .before .before .before .before .before .before .before .before .before .before .before in
+    let kind = getD (g .args .lookup .now) 0 0 in
+    let answer = getD (g .args .settings .now) (32 + c .before .before .before .before .before .before .before .before .before .wide .result) 0 in
+    let some : 0 < c .before .before .before .before .before .code-at .result = omega (arith, n) in
+    let o = carries (l .actions) (l .i) (l .e) (omega (arith, l .inv .1, l .inv .2, r .inside n)) kind answer (c .before .before .before .before .before .code-at .result) some in
+    let long = length-set (l .actions) (l .i) (codeListed (c .before .before .before .before .before .code-at .result)) ∙ l .inv .2 in
+    (r .inside n, l .inv .1, simp length-set (l .inv .2), rw (c .carry-out .ensures, c .before .code-listed .ensures) (going-more (l .inv .3) (r .goes n) (c .before .before .if2 .left) long refl (search needs) (rw w) o))
 
 pub serve-spec : {M : Type 1} → statement M
 serve-spec =
@@ -75,11 +95,15 @@ serve-spec =
     wide-requires
     add-answer
     shared-slice-read-answer
-    unserved-requires
+    no-effect-requires
     loop-holds
     code-at-requires
+    served-with-requires
     returns
+    served-with-requires-2
     returns-2
+    code-listed-requires
+    array-write-actions
     carry-out-requires
     add-i
     loop-less
