@@ -1,6 +1,6 @@
 //! Writes a file of house records: a plan of 64 sets and RULES rules, then
-//! NUMBERS numbers. For RULES `any` each class has one rule, which fits any
-//! number, so that the choice costs least.
+//! NUMBERS numbers. For RULES `any` each class that the numbers have has one
+//! rule, which fits any number, so that the choice costs least.
 //!
 //!     file RULES NUMBERS >FILE
 

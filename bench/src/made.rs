@@ -46,9 +46,10 @@ impl Made {
         Made::of(Rooms { sets, rules }, sets, usize::from(rules))
     }
 
-    /// A plan of so many sets, with a rule for each class that fits any number.
+    /// A plan of so many sets, with one rule for each class that the numbers
+    /// have; it fits any number of that class.
     pub fn any(sets: u16) -> Made {
-        let mut made = Made::of(Rooms { sets, rules: 6 }, sets, 0);
+        let mut made = Made::of(Rooms { sets, rules: 3 }, sets, 0);
         for class in [Class::INTL, Class::NATL, Class::UNKNOWN] {
             while made.rules.iter().all(|(filter, _)| filter.class != class) {
                 let filter = Filter {

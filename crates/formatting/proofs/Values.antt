@@ -10,7 +10,7 @@ use lib.Dec.{eqb}
 use borrow.Author.Tests.{eq-eqb, ne-eqb, le-leb, lt-leb}
 use Rattle.meaning.specs.Basics.{if_then_else_, any, isEmpty, part, digitsOf}
 use Rattle.meaning.specs.Settings.{settingsOf, lookupOf}
-use Rattle.meaning.specs.Actions.{CC, RN, CA, isCCDEF, casOf}
+use Rattle.meaning.specs.Actions.{CC, CA, isCCDEF, casOf}
 use Rattle.meaning.specs.Conditioning.{stretchOf, digitsAt, valueFrom}
 use Rattle.meaning.specs.Services.{atStart, rnSet, valueToSend}
 use Rattle.services.specs.declared.Served.{Served}

@@ -45,7 +45,7 @@ pub record Writes (ds entry exit : List ℕ) (r : ℕ) : Type 0 where
   pub written : exit ≡ writtenOver ds entry
   pub count : r ≡ length ds
 
--- r is how many the digits ds are, or one more than `most` where they are more; they stand at the front of a buffer where they are not
+-- r is how many the digits ds are, or one more than `most` where they are more; where they are not, they stand at the front of the buffer
 pub record JoinsInto (ds : List ℕ) (most : ℕ) (exit : List ℕ) (r : ℕ) : Type 0 where
   pub count : r ≡ (if leb (length ds) most then length ds else most + 1)
   pub digits : length ds ≤ most → take r exit ≡ ds

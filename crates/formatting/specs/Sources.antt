@@ -1,5 +1,5 @@
 -- Where values are taken from: the body of a number and, behind it, the settings.
-use Prim.Native.Nat.{ℕ, _+_, _≤_}
+use Prim.Native.Nat.{ℕ, _≤_}
 use mathlib.Core.Path.{_≡_}
 use mathlib.Core.Bool.{false}
 use mathlib.Core.List.{List, _++_}
@@ -15,7 +15,7 @@ use Rattle.formatting.specs.Values.{valueSent}
 unfoldable pub sourceOf : List ℕ → List ℕ → List ℕ → List ℕ
 sourceOf settings body buffer = body ++ (settings ++ drop 109 buffer)
 
--- what a source has of both
+-- the settings and the lookup that a source has
 abbrev pub settingsIn : List ℕ → List ℕ
 settingsIn source = part 73 36 source
 

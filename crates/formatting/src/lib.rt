@@ -201,7 +201,7 @@ fn put_value(source: &[u8], value: Span, out: &mut [u8])
     }
 }
 
-// The values of the formatting actions, each directly behind the one before, at the front of a buffer that has room for `most` digits and a block; one more than
+// The values of the formatting actions, each directly behind the one before, at the front of a buffer that has room for `most` digits and two blocks; one more than
 // `most` where they have more.
 pub fn join_values(
     source: &[u8],
@@ -259,7 +259,7 @@ fn fill_source_of_digits(settings: &[u8], digits: &[u8], source: &mut [u8])
     fill_source(settings, &body, source);
 }
 
-// The conditioned number at the front of a buffer that has room for 35 digits and a block.
+// The conditioned number at the front of a buffer that has room for 35 digits and two blocks.
 fn join_conditioned(
     settings: &[u8],
     digits: &[u8],

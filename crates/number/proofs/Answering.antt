@@ -35,7 +35,7 @@ pub gives-refused : (a : Answer) (k : ℕ) (out : List ℕ) (r : Answered) → a
 unfolding refused
 gives-refused a k out r e p = subst (λ (x : Answer). GivesAnswer x out out r) (sym e) (record { result = p; buffer = refl })
 
--- how many are counted
+-- the answer counts the digits that it holds
 pub holds-count : {a : Answer} {after : List ℕ} {r : Answered} → HoldsAnswer a after r → r .digits ≡ length (a .digits)
 holds-count h = ap (λ (x : Answered). x .digits) (h .result)
 
@@ -93,7 +93,7 @@ joined-from settings body cas n prefix s fas buffer k b h is j =
     ))
     j
 
--- each of them with what the buffer holds
+-- each way after the service actions, with what the buffer holds
 module _ (incoming class : ℕ) (s : Served) (ds after : List ℕ) (r : Answered) where
   pub holds-responded : 2 ≤ s .response → r ≡ countedAs RESPONDED incoming s 0 → HoldsAnswer (finished incoming class s ds) after r
   holds-responded h p = holds (finished incoming class s ds) (servedBy RESPONDED incoming s []) after r (finished-responded incoming class s ds h) p (omega arith) refl

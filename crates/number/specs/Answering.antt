@@ -50,14 +50,14 @@ abbrev pub givenBy : List ℕ → List ℕ → ℕ → List ℕ → ℕ → List
 givenBy settings lookup class digits prefix content =
     answerWith (settingsOf settings) (record { class = class; digits = digits; lookup = lookupOf lookup }) prefix (actionsOf content)
 
--- what a body has: its lookup, and the n digits of its number
+-- what a body has, as a source made of it has it: its lookup, and the n digits of its number
 abbrev pub lookupOfBody : List ℕ → List ℕ
 lookupOfBody body = part 34 39 body
 
 abbrev pub digitsOfBody : ℕ → List ℕ → List ℕ
 digitsOfBody n body = part 2 n body
 
--- the settings, a body whose n digits are enough for the conditioning actions, and room for the outgoing digits and a block
+-- the settings, a body whose n digits are enough for the conditioning actions, and room for the outgoing digits and two blocks
 pub record Finishable (settings body : List ℕ) (n : ℕ) (cas : List ℕ) (prefix : ℕ) (out : List ℕ) : Type 0 where
   pub settings-long : length settings ≡ 36
   pub body-long : length body ≡ 73
@@ -86,7 +86,7 @@ pub record Known (m body : List ℕ) : Type 0 where
   pub whole : length body ≡ 73
   pub range : numberInRange body ≡ true
 
--- and room for the outgoing digits and a block
+-- and room for the outgoing digits and two blocks
 pub record Ready (m body out : List ℕ) : Type 0 where
   pub known : Known m body
   pub room : 64 ≤ length out

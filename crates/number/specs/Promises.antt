@@ -14,7 +14,7 @@ pub record GivesAnswer (a : Answer) (out after : List ℕ) (r : Answered) : Type
   pub result : r ≡ answeredAs a
   pub buffer : after ≡ writtenOver (a .digits) out
 
--- the same with the digits at the front of a buffer of which nothing else is said
+-- the same with the digits, 32 at most, at the front of a buffer of which nothing else is said
 pub record HoldsAnswer (a : Answer) (after : List ℕ) (r : Answered) : Type 0 where
   pub result : r ≡ answeredAs a
   pub few : length (a .digits) ≤ 32

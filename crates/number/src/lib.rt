@@ -38,7 +38,7 @@ const MOST: usize = 32;
 
 const ROOM_BYTES: usize = 35;
 
-// The bytes that the outgoing digits take while they are made: behind the last of them a block may stand.
+// The bytes that the outgoing digits take while they are made: behind them is room for the two blocks that a value may take.
 pub const ANSWER_BYTES: usize = 64;
 
 // The first response that ends the service stage.

@@ -12,7 +12,8 @@ use Rattle.meaning.specs.Settings.{Settings, Lookup, settingsOf, lookupOf}
 use Rattle.meaning.specs.Actions.{codesOf}
 use Rattle.meaning.specs.Services.{Stage, atStart, responded, serve, eightPlaces}
 use Rattle.services.specs.declared.Served.{Served}
-use Rattle.services.specs.Stages.{stageOf, unserved, CarriesOut, carryingOut, stageAfter, ServedAs, ServedFrom, ServedAnew}
+use Rattle.services.specs.Stages.{stageOf, unserved, stageAfter, ServedAs, ServedFrom, ServedAnew}
+use Rattle.services.proofs.Stages.{CarriesOut, carryingOut}
 use Rattle.buffer.specs.Zeros.{zeros}
 use Rattle.buffer.proofs.ZeroLaws.{take-zeros, drop-zeros}
 

@@ -1,13 +1,13 @@
--- Each action over the struct is document 01's over its stage, and how the loop over the actions goes on.
+-- Each action over the struct is document 01's over its stage.
 use Prim.Native.Nat.{ℕ, zero, suc, _+_, _<_}
 use mathlib.Core.Path.{_≡_, refl, sym, _∙_}
-use mathlib.Core.Bool.{Bool, true, false, _&&_, _||_, not}
+use mathlib.Core.Bool.{Bool, true, false, _&&_, not}
 use mathlib.Core.List.{List, [], _∷_, _++_}
 use native.Mathlib.Numerals.{add-one}
 use native.Mathlib.Omega.{arith}
-use lib.ListN.{length, take, drop, set}
+use lib.ListN.{length, take, drop, getD, set}
 use lib.Seq.{take-suc-set, drop-set-lt}
-use lib.Dec.{leb, eqb}
+use lib.Dec.{eqb}
 use borrow.Author.Tests.{ne-eqb, le-leb, lt-ltb}
 use Rattle.meaning.specs.Basics.{if_then_else_, isEmpty, contains}
 use Rattle.meaning.specs.Settings.{Settings, Lookup}
@@ -15,7 +15,17 @@ use Rattle.meaning.specs.Actions.{RN, INPRTG, CDPNNP, ASDLKUP, GRNLKUP, CDIAL}
 use Rattle.meaning.specs.Services.{Stage, atStart, inprtg, rnSet, cdpnnp, asdlkup, grnlkup, cdial, carryOut}
 use Rattle.services.specs.declared.Served.{Served}
 use Rattle.services.specs.declared.Effect.{Effect}
-use Rattle.services.specs.Stages.{stageOf, servedWith, effectAfter, codeListed, CarriesOut, carryingOut}
+use Rattle.services.specs.Stages.{stageOf, servedWith, effectAfter, codeListed}
+
+-- r is s with an action of document 01 carried out, for lookups of a kind and settings with an answer for it; places behind stay
+pub record CarriesOut (action : Settings → Lookup → List ℕ → Stage → Stage) (kind answer : ℕ) (s r : Served) : Type 0 where
+  pub stage : (settings : Settings) (lookup : Lookup) (fas : List ℕ) → lookup .kind ≡ kind → getD (settings .answers) kind 0 ≡ answer
+      → stageOf settings lookup fas r ≡ action settings lookup fas (stageOf settings lookup fas s)
+  pub count : r .count ≡ s .count + 1
+  pub behind : drop (s .count + 1) (r .actions) ≡ drop (s .count + 1) (s .actions)
+
+abbrev pub carryingOut : ℕ → Settings → Lookup → List ℕ → Stage → Stage
+carryingOut code settings lookup fas s = carryOut settings lookup fas code s
 
 -- ONE MORE ACTION
 
@@ -52,7 +62,7 @@ rn-again settings lookup fas ported s e = rw e (go (eqb (lookup .kind) 2) (eqb (
     go false false false = refl
 
 -- two actions that are the same on every stage
-pub carries-as : {action other : Settings → Lookup → List ℕ → Stage → Stage} {kind answer : ℕ} {s r : Served}
+carries-as : {action other : Settings → Lookup → List ℕ → Stage → Stage} {kind answer : ℕ} {s r : Served}
     → ((settings : Settings) (lookup : Lookup) (fas : List ℕ) (x : Stage) → action settings lookup fas x ≡ other settings lookup fas x)
     → CarriesOut action kind answer s r → CarriesOut other kind answer s r
 carries-as {action} {other} {kind} {answer} {s} {r} same o =

@@ -1,14 +1,14 @@
 -- What the service stage's struct says of a stage of document 01, and what its functions promise.
-use Prim.Native.Nat.{ℕ, _+_, _≤_}
+use Prim.Native.Nat.{ℕ, _≤_}
 use mathlib.Core.Path.{_≡_}
 use mathlib.Core.Bool.{Bool, false, _&&_, _||_}
 use mathlib.Core.List.{List, []}
-use lib.ListN.{length, take, drop, getD}
+use lib.ListN.{length, take, getD}
 use lib.Dec.{leb, ltb, eqb}
 use Rattle.meaning.specs.Basics.{if_then_else_, writtenOver}
 use Rattle.meaning.specs.Settings.{Settings, Lookup, settingsOf, lookupOf}
 use Rattle.meaning.specs.Actions.{INPRTG, CDPNNP, ASDLKUP, GRNLKUP, CDIAL, codesOf}
-use Rattle.meaning.specs.Services.{Stage, atStart, rnSet, carryOut, serve, eightPlaces}
+use Rattle.meaning.specs.Services.{Stage, atStart, rnSet, serve, eightPlaces}
 use Rattle.services.specs.declared.Served.{Served}
 use Rattle.services.specs.declared.Effect.{Effect}
 
@@ -61,16 +61,6 @@ effectAfter code kind answer e =
 -- the code by which it is listed
 unfoldable pub codeListed : ℕ → ℕ
 codeListed code = if ltb CDIAL code then CDIAL else code
-
--- r is s with an action of document 01 carried out, for lookups of a kind and settings with an answer for it; places behind stay
-pub record CarriesOut (action : Settings → Lookup → List ℕ → Stage → Stage) (kind answer : ℕ) (s r : Served) : Type 0 where
-  pub stage : (settings : Settings) (lookup : Lookup) (fas : List ℕ) → lookup .kind ≡ kind → getD (settings .answers) kind 0 ≡ answer
-      → stageOf settings lookup fas r ≡ action settings lookup fas (stageOf settings lookup fas s)
-  pub count : r .count ≡ s .count + 1
-  pub behind : drop (s .count + 1) (r .actions) ≡ drop (s .count + 1) (s .actions)
-
-abbrev pub carryingOut : ℕ → Settings → Lookup → List ℕ → Stage → Stage
-carryingOut code settings lookup fas s = carryOut settings lookup fas code s
 
 -- what the stage is asked over: a set's service actions, the settings, and a lookup with its kind in range
 pub record Serviceable (sas settings lookup : List ℕ) : Type 0 where

@@ -83,7 +83,7 @@ fn served_with(places: [u8; 8], n: usize, e: Effect) -> Served
     }
 }
 
-// ONE ACTION, by its code. Each field is worked out for whatever code, without a branch to take.
+// ONE ACTION, by its code. Each field has a test of its own, so that no jump by the code is needed.
 
 // INPRTG sets the response.
 fn response_after(code: u8, answer: u8, response: u8) -> u8

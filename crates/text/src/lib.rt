@@ -106,7 +106,7 @@ fn few_to_text(digits: &[u8], out: &mut [u8])
     }
 }
 
-// The same, eight at a time. The last eight overlap what is written already, with the same text.
+// The same, eight at a time. The last eight may overlap what is written already, with the same text.
 fn digits_to_text(digits: &[u8], out: &mut [u8])
     requires { ⌜ T (all isDigit (now digits)) × (length (now digits) ≤ length (now out)) ⌝ }
     ensures { λ _. ⌜ now (out .exit) ≡ writtenOver (map digitText (now (digits .entry))) (now (out .entry)) ⌝ }

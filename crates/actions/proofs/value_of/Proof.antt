@@ -7,7 +7,6 @@ use native.Mathlib.Omega.{arith}
 use lib.Dec.{leb}
 use lib.ListN.{List·getD-eq-default}
 use borrow.Author.Tests.{leb-true, leb-false}
-use borrow.Author.Needs.{needs}
 use Rattle.meaning.specs.Actions.{valueOf}
 use Rattle.ranges.proofs.Tables.{arm}
 use Rattle.actions.proofs.value_of.Statement.{statement}
