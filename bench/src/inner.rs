@@ -22,8 +22,6 @@ use std::hint::black_box;
 const SETS: u16 = 64;
 const RULES: [u16; 5] = [1, 8, 64, 512, 4096];
 const NUMBERS: usize = 4096;
-/// The bytes that the inner call asks for; it keeps nothing behind the digits.
-const ANSWER_BYTES: usize = 64;
 
 extern "C" {
     fn npp_answer_known(
@@ -52,15 +50,6 @@ fn answer_known(plan: &[u8], body: &[u8], out: &mut [u8]) -> NppAnswered {
     }
 }
 
-/// The same with only the digits written to `out`.
-fn answer_written(plan: &[u8], body: &[u8], out: &mut [u8]) -> NppAnswered {
-    let mut held = [0; ANSWER_BYTES];
-    let answered = answer_known(plan, body, &mut held);
-    let digits = answered.digits as usize;
-    out[..digits].copy_from_slice(&held[..digits]);
-    answered
-}
-
 fn main() {
     let clock = Clock::from_arguments();
     for rules in RULES {
@@ -72,8 +61,8 @@ fn time_answer(clock: &Clock, rules: u16) {
     let mut made = Made::full(SETS, rules);
     let memory = layout::encode(&made.plan);
     let bodies = made.numbers(clock.scaled(NUMBERS));
-    same::demand_same(&made.plan, &memory, &bodies, answer_written);
-    let mut out = [0; ANSWER_BYTES];
+    same::demand_same(&made.plan, &memory, &bodies, answer_known);
+    let mut out = [0; same::ROOM];
     clock.line(
         &format!("known {rules}"),
         bodies.len(),

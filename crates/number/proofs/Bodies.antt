@@ -25,7 +25,7 @@ use Rattle.plan.specs.Layout.{planOf}
 use Rattle.plan.proofs.ReadLaws.{sound-is}
 use Rattle.choice.specs.Chosen.{Prefix, NamedContent}
 use Rattle.choice.proofs.Chosen.{rulePlaced, ChosenAt, chosen-at, none-chosen}
-use Rattle.number.specs.Answering.{givenBy, digitsOfBody, Answerable, Digits, Known, Ready, Placed}
+use Rattle.number.specs.Answering.{givenBy, digitsOfBody, Answerable, Digits, Known, Holdable, Placed}
 use Rattle.number.specs.Promises.{HoldsAnswer}
 use Rattle.number.proofs.Answering.{holds-unserved, answer-with}
 
@@ -63,7 +63,7 @@ module _ (m body out : List ℕ) (n k : ℕ) (placed : Placed m body n k out) wh
   ds = digitsOfBody n body
 
   known : Known m body
-  known = placed .ready .known
+  known = placed .holdable .known
 
   number-is : numberOf body ≡ record { class = getD body 0 0; digits = ds; lookup = lookupOf (part 34 39 body) }
   unfolding numberOf
@@ -82,7 +82,7 @@ module _ (m body out : List ℕ) (n k : ℕ) (placed : Placed m body n k out) wh
           kind = lookup-kind body (known .whole) (known .range);
           few = placed .few;
           content-long = content-is .size;
-          room = placed .ready .room;
+          room = placed .holdable .room;
         }
 
     answer-is : answerOf (planOf m) (numberOf body) ≡ givenBy settings (part 34 39 body) (getD body 0 0) ds prefix content
@@ -100,11 +100,11 @@ module _ (m body out : List ℕ) (n k : ℕ) (placed : Placed m body n k out) wh
 
 -- BY THE CHOICE
 
-module _ (m body ds out : List ℕ) (ready : Ready m body out) (digits : Digits body ds) (o : Chosen)
+module _ (m body ds out : List ℕ) (holdable : Holdable m body out) (digits : Digits body ds) (o : Chosen)
     (o-is : placeChosen o ≡ chosenPlace (getD body 0 0) ds (planOf m .rules)) where
   pub placed-at : (place : RulePlace) → o ≡ At place → Placed m body (length ds) (place .0) out
   placed-at place q =
-      record { ready = ready; digits = digits .from ∙ digits .is; few = digits .few; place = rw (digits .from) (sym o-is ∙ ap placeChosen q) }
+      record { holdable = holdable; digits = digits .from ∙ digits .is; few = digits .few; place = rw (digits .from) (sym o-is ∙ ap placeChosen q) }
 
   pub holds-none : o ≡ NoRule → (after : List ℕ) (r : Answered) → r ≡ answeredAs (unserved NO-RULE (getD body 0 0)) → HoldsAnswer (answerOf (planOf m) (numberOf body)) after r
   unfolding answerOf numberOf

@@ -86,14 +86,19 @@ pub record Known (m body : List ℕ) : Type 0 where
   pub whole : length body ≡ 73
   pub range : numberInRange body ≡ true
 
--- and room for the outgoing digits and two blocks
+-- and room for the outgoing digits
 pub record Ready (m body out : List ℕ) : Type 0 where
+  pub known : Known m body
+  pub room : 32 ≤ length out
+
+-- and for two blocks behind them
+pub record Holdable (m body out : List ℕ) : Type 0 where
   pub known : Known m body
   pub room : 64 ≤ length out
 
 -- and the rule chosen, at place k, for the n digits of the body
 pub record Placed (m body : List ℕ) (n k : ℕ) (out : List ℕ) : Type 0 where
-  pub ready : Ready m body out
+  pub holdable : Holdable m body out
   pub digits : digitsOfBody n body ≡ numberOf body .digits
   pub few : n ≤ 32
   pub place : chosenPlace (getD body 0 0) (digitsOfBody n body) (planOf m .rules) ≡ some k

@@ -15,7 +15,7 @@ ghost use Rattle.meaning.specs.Answer.{refused, unserved, outgoingClass, answer
 ghost use Rattle.meaning.specs.Answers.{answeredAs};
 ghost use Rattle.formatting.specs.Joins.{outgoing};
 ghost use Rattle.plan.specs.Layout.{planOf};
-ghost use Rattle.number.specs.Answering.{countedAs, finished, givenBy, lookupOfBody, digitsOfBody, Finishable, Answerable, Digits, Known, Ready, Placed};
+ghost use Rattle.number.specs.Answering.{countedAs, finished, givenBy, lookupOfBody, digitsOfBody, Finishable, Answerable, Digits, Ready, Holdable, Placed};
 ghost use Rattle.number.specs.Promises.{HoldsAnswer, GivesAnswer, AnswerPromise};
 use meaning::Answered;
 use meaning::Chosen;
@@ -205,8 +205,8 @@ fn answer_at(plan: &[u8], body: &[u8], n: usize, place: RulePlace, out: &mut [u8
 
 // The answer over a plan that is known to be sound, for a body of just its length that is in range. The outgoing digits stand at the front of a buffer of which
 // nothing else is kept.
-pub fn answer_known(plan: &[u8], body: &[u8], out: &mut [u8]) -> Answered
-    requires { ⌜ Ready (now plan) (now body) (now out) ⌝ }
+pub fn answer_held(plan: &[u8], body: &[u8], out: &mut [u8]) -> Answered
+    requires { ⌜ Holdable (now plan) (now body) (now out) ⌝ }
     ensures { λ r. ⌜ HoldsAnswer (answerOf (planOf (now (plan .entry))) (numberOf (now (body .entry)))) (now (out .exit)) r ⌝ }
 {
     let digits = digits_in(body);
@@ -218,12 +218,12 @@ pub fn answer_known(plan: &[u8], body: &[u8], out: &mut [u8]) -> Answered
 }
 
 // The same with the outgoing digits at the front of a lent buffer; the bytes behind them stay.
-fn answer_written(plan: &[u8], body: &[u8], out: &mut [u8]) -> Answered
-    requires { ⌜ Known (now plan) (now body) × (35 ≤ length (now out)) ⌝ }
+pub fn answer_known(plan: &[u8], body: &[u8], out: &mut [u8]) -> Answered
+    requires { ⌜ Ready (now plan) (now body) (now out) ⌝ }
     ensures { λ r. ⌜ GivesAnswer (answerOf (planOf (now (plan .entry))) (numberOf (now (body .entry)))) (now (out .entry)) (now (out .exit)) r ⌝ }
 {
     let mut digits = [0u8; ANSWER_BYTES];
-    let a = answer_known(plan, body, &mut digits);
+    let a = answer_held(plan, body, &mut digits);
     let n = a.digits;
     buffer::copy(out, &digits[0..n]);
     a
@@ -246,5 +246,5 @@ pub fn answer(plan: &[u8], body: &[u8], out: &mut [u8]) -> Answered
     if !settings::number_in_range(number) {
         return refused(RANGE);
     }
-    answer_written(plan, number, out)
+    answer_known(plan, number, out)
 }

@@ -95,7 +95,7 @@ fn answer_line(plan: &[u8], body: &[u8], output: &mut [u8]) -> usize
     ensures { λ r. ⌜ Writes (numberLine (answer (stateOf (now (plan .entry))) 35 (now (body .entry)))) (now (output .entry)) (now (output .exit)) r ⌝ }
 {
     let mut digits = [0u8; number::ANSWER_BYTES];
-    let a = number::answer_known(plan, body, &mut digits);
+    let a = number::answer_held(plan, body, &mut digits);
     let n = a.digits;
     text::number_line(a, &digits[0..n], output)
 }

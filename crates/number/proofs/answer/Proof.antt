@@ -1,5 +1,6 @@
 -- The checks in order, then the answer over the plan.
 use mathlib.Core.Path.{sym, _∙_}
+use native.Mathlib.Omega.{arith}
 use borrow.Author.Tests.{not-true, not-false}
 use Rattle.number.proofs.Calls.{gives-cut, gives-unsound, gives-no-room, gives-range, gives-known, known-is}
 use borrow.Author.Needs.{needs}
@@ -53,10 +54,10 @@ returns-4 c =
     let b = c .before .before .before .before .before .before .before .before .before .before .before in
     gives-range (b .args .plan .now) (b .args .body .now) (b .args .out .now) _ (c .before .before .before .before .before .before .before .if1 .left) (sym (c .before .before .before .before .before .before .sound .ensures) ∙ not-false _ (c .before .before .before .before .before .if2 .left)) (c .before .before .before .before .if3 .left) (sym (c .before .before .number-in-range .ensures) ∙ not-true _ (c .before .if4 .taken)) (c .refused4 .ensures)
 
-answer-written-requires : tie.Need-answer-written-requires
-answer-written-requires c κs =
+answer-known-requires : tie.Need-answer-known-requires
+answer-known-requires c κs =
     let b = c .before .before .before .before .before .before .before .before .before .before .before in
-    (known-is (b .args .plan .now) (b .args .body .now) (c .before .before .before .before .before .before .before .if1 .left) (sym (c .before .before .before .before .before .before .sound .ensures) ∙ not-false _ (c .before .before .before .before .before .if2 .left)) (sym (c .before .before .number-in-range .ensures) ∙ not-false _ (c .before .if4 .left)), c .before .before .before .before .if3 .left)
+    record { known = known-is (b .args .plan .now) (b .args .body .now) (c .before .before .before .before .before .before .before .if1 .left) (sym (c .before .before .before .before .before .before .sound .ensures) ∙ not-false _ (c .before .before .before .before .before .if2 .left)) (sym (c .before .before .number-in-range .ensures) ∙ not-false _ (c .before .if4 .left)); room = omega (arith, c .before .before .before .before .if3 .left) }
 
 same-length : tie.Need-same-length
 same-length c = search needs
@@ -64,7 +65,7 @@ same-length c = search needs
 returns-5 : tie.Need-returns-5
 returns-5 c =
     let b = c .before .before .before .before .before .before .before .before .before .before .before .before .before .before in
-    gives-known (b .args .plan .now) (b .args .body .now) (b .args .out .now) _ (c .before .before .before .before .before .before .before .before .before .before .if1 .left) (sym (c .before .before .before .before .before .before .before .before .before .sound .ensures) ∙ not-false _ (c .before .before .before .before .before .before .before .before .if2 .left)) (c .before .before .before .before .before .before .before .if3 .left) (sym (c .before .before .before .before .before .number-in-range .ensures) ∙ not-false _ (c .before .before .before .before .if4 .left)) _ (c .before .before .answer-written .ensures)
+    gives-known (b .args .plan .now) (b .args .body .now) (b .args .out .now) _ (c .before .before .before .before .before .before .before .before .before .before .if1 .left) (sym (c .before .before .before .before .before .before .before .before .before .sound .ensures) ∙ not-false _ (c .before .before .before .before .before .before .before .before .if2 .left)) (c .before .before .before .before .before .before .before .if3 .left) (sym (c .before .before .before .before .before .number-in-range .ensures) ∙ not-false _ (c .before .before .before .before .if4 .left)) _ (c .before .before .answer-known .ensures)
 
 pub answer-spec : {M : Type 1} → statement M
 answer-spec =
@@ -83,6 +84,6 @@ answer-spec =
     number-in-range-requires
     refused-requires-4
     returns-4
-    answer-written-requires
+    answer-known-requires
     same-length
     returns-5)

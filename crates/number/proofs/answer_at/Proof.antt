@@ -9,18 +9,18 @@ prefix-at-requires : tie.Need-prefix-at-requires
 prefix-at-requires c κs =
     let b = c .before .before .before in
     let a = b .args in
-    (b .pre .ready .known .sound, at-place (a .plan .now) (a .body .now) (a .out .now) (a .n) (a .place .0) (b .pre) .below)
+    (b .pre .holdable .known .sound, at-place (a .plan .now) (a .body .now) (a .out .now) (a .n) (a .place .0) (b .pre) .below)
 
 content-at-requires : tie.Need-content-at-requires
 content-at-requires c κs =
     let b = c .before .before .before .before in
     let a = b .args in
-    (b .pre .ready .known .sound, at-place (a .plan .now) (a .body .now) (a .out .now) (a .n) (a .place .0) (b .pre) .below)
+    (b .pre .holdable .known .sound, at-place (a .plan .now) (a .body .now) (a .out .now) (a .n) (a .place .0) (b .pre) .below)
 
 settings-requires : tie.Need-settings-requires
 settings-requires c κs =
     let b = c .before .before .before .before .before in
-    numbers (b .args .plan .now) (b .pre .ready .known .sound) .header
+    numbers (b .args .plan .now) (b .pre .holdable .known .sound) .header
 
 answer-by-requires : tie.Need-answer-by-requires
 answer-by-requires c κs =

@@ -1,54 +1,48 @@
--- No rule, or the answer by the one chosen.
-use Rattle.number.proofs.Bodies.{placed-at, holds-none}
+-- At most 32 digits are copied.
+use native.Mathlib.Omega.{arith}
+use lib.ListN.{length-take}
+use Rattle.number.proofs.Answering.{holds-few, gives-copied}
 use borrow.Author.Needs.{needs}
 use Rattle.number.proofs.answer_known.Statement.{statement}
 use Rattle.number.proofs.answer_known.Tie as tie
 
-digits-in-requires : tie.Need-digits-in-requires
-digits-in-requires c κs = search needs
+slice-aggregate-answer-held : tie.Need-slice-aggregate-answer-held
+slice-aggregate-answer-held c = search needs
 
-shared-slice-read-class : tie.Need-shared-slice-read-class
-shared-slice-read-class c = search needs
+answer-held-requires : tie.Need-answer-held-requires
+answer-held-requires c κs = search needs
 
-choose-requires : tie.Need-choose-requires
-choose-requires c κs = search needs
+sub-copy : tie.Need-sub-copy
+sub-copy c = search needs
 
-enum-told : tie.Need-enum-told
-enum-told c = search needs
+part-copy-start : tie.Need-part-copy-start
+part-copy-start c = search needs
 
-unserved-requires : tie.Need-unserved-requires
-unserved-requires c κs = search needs
+part-copy-end : tie.Need-part-copy-end
+part-copy-end c = omega (arith, holds-few (c .before .before .before .answer-held .ensures))
 
-enum-known-place : tie.Need-enum-known-place
-enum-known-place c = search needs
-
-answer-at-requires : tie.Need-answer-at-requires
-answer-at-requires c κs =
-    let b = c .before .before .before .before .before .before .before .before .before .before in
-    placed-at (b .args .plan .now) (b .args .body .now) _ (b .args .out .now) (b .pre) (c .before .before .before .before .before .before .digits-in .ensures) _ (c .before .before .before .before .choose .ensures) _ (c .before .before .place .given .1)
-
-returns : tie.Need-returns
-returns c =
-    let b = c .before .before .before .before .before .before .before .before .before in
-    holds-none (b .args .plan .now) (b .args .body .now) _ (b .args .out .now) (b .pre) (c .before .before .before .before .before .digits-in .ensures) _ (c .before .before .before .choose .ensures) (c .before .enum-told .given .1) _ _ (c .unserved .ensures)
+copy-requires : tie.Need-copy-requires
+copy-requires c κs =
+    let g = c .before .before .before .before .before .before .before .before .before in
+    rw length-take (omega (arith, holds-few (c .before .before .before .before .answer-held .ensures), g .pre .room))
 
 same-length : tie.Need-same-length
 same-length c = search needs
 
-returns-2 : tie.Need-returns-2
-returns-2 c = search needs
+returns : tie.Need-returns
+returns c =
+    let g = c .before .before .before .before .before .before .before .before .before .before .before .before in
+    gives-copied _ _ (g .args .out .now) _ _ (c .before .before .before .before .before .before .before .answer-held .ensures) (c .before .before .copy .ensures)
 
 pub answer-known-spec : {M : Type 1} → statement M
 answer-known-spec =
     tie.close
     (tie.spec
-    digits-in-requires
-    shared-slice-read-class
-    choose-requires
-    enum-told
-    unserved-requires
-    enum-known-place
-    answer-at-requires
-    returns
+    slice-aggregate-answer-held
+    answer-held-requires
+    sub-copy
+    part-copy-start
+    part-copy-end
+    copy-requires
     same-length
-    returns-2)
+    returns)
