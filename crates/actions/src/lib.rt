@@ -52,27 +52,15 @@ pub fn no_codes(codes: &[u8]) -> bool
     code_at(codes, 0) == 0
 }
 
-// The value that a conditioning code sets, by its formatting code; 0 for none. With a number for each code it is a table when compiled.
+// The value that each conditioning code sets, by its formatting code; 0 for none.
+const VALUES: [u8; 16] = [0, 0, 1, 2, 3, 4, 5, 7, 8, 9, 10, 3, 4, 5, 6, 1];
+
+// The value that a conditioning code sets; 0 for none.
 pub fn value_of(code: u8) -> u8
     ensures { λ r. ⌜ r ≡ valueOf code ⌝ }
 {
-    match code {
-        2 => 1,
-        3 => 2,
-        4 => 3,
-        5 => 4,
-        6 => 5,
-        7 => 7,
-        8 => 8,
-        9 => 9,
-        10 => 10,
-        11 => 3,
-        12 => 4,
-        13 => 5,
-        14 => 6,
-        15 => 1,
-        _ => 0,
-    }
+    let i = code as usize;
+    if i < 16 { VALUES[i] } else { 0 }
 }
 
 // An X action: SNX, DNX, ZNX.
