@@ -4,6 +4,7 @@ use actions::action_at;
 use actions::fixed_of;
 use actions::is_x;
 use actions::value_of;
+use buffer::wide;
 use meaning::Span;
 ghost use mathlib.Core.Path.{_≡_};
 ghost use mathlib.Core.Bool.{false};
@@ -11,7 +12,9 @@ ghost use lib.ListN.{length};
 ghost use Rattle.meaning.specs.Actions.{casOf};
 ghost use Rattle.meaning.specs.Conditioning.{width, meetsTooFew, short, takesValue, stretchOf, digitsAt};
 ghost use Rattle.actions.specs.Reading.{actionOf};
+ghost use Prim.Native.Nat.{_<_};
 ghost use Rattle.conditioning.specs.Spans.{stretchIn, Covers};
+ghost use Rattle.conditioning.specs.Marks.{Takes, MarksOnce, Markable, MarksAll};
 
 const CCDEF: u8 = 15;
 
@@ -108,4 +111,59 @@ pub fn stretch_in<'a>(cas: &[u8], prefix: usize, digits: &'a [u8], v: u8) -> &'a
     let start = s.start;
     let end = start + s.count;
     &digits[start..end]
+}
+
+// MARKS: where the digits of every value lie, found in one walk
+
+// The places of a table of marks: one for each value that conditioning sets, and place 0 for actions that take none.
+pub const PLACES: usize = 11;
+
+// The value whose digits an action takes; 0 for IGN, and for CCDEF, which takes none.
+fn value_taken(a: ConditioningAction) -> usize
+    ensures { λ r. ⌜ Takes (actionOf a) r ⌝ }
+{
+    if a.code == CCDEF {
+        return 0;
+    }
+    wide(value_of(a.code))
+}
+
+// Marks a value that is not marked yet.
+fn mark(v: usize, start: usize, count: usize, starts: &mut [usize], counts: &mut [usize])
+    requires { ⌜ (v < length (now starts)) × (v < length (now counts)) ⌝ }
+    ensures { λ _. ⌜ MarksOnce v start count (now (starts .entry)) (now (counts .entry)) (now (starts .exit)) (now (counts .exit)) ⌝ }
+{
+    if starts[v] != 0 {
+        return;
+    }
+    starts[v] = start;
+    counts[v] = count;
+}
+
+// Marks where the digits of each value lie, of n digits that are enough; the first of them has place `first`, which is not 0.
+pub fn mark_spans(
+    cas: &[u8],
+    prefix: usize,
+    n: usize,
+    first: usize,
+    starts: &mut [usize],
+    counts: &mut [usize],
+)
+    requires { ⌜ Markable prefix n first (now cas) (now starts) (now counts) ⌝ }
+    ensures { λ _. ⌜ MarksAll prefix n first (casOf (now (cas .entry))) (now (starts .exit)) (now (counts .exit)) ⌝ }
+{
+    let mut taken = 0;
+    let mut left = n;
+    let mut i = 0;
+    loop {
+        let a = action_at(cas, i);
+        if a.code == 0 {
+            return;
+        }
+        let w = width(a, prefix, left);
+        mark(value_taken(a), first + taken, w, starts, counts);
+        taken += w;
+        left -= w;
+        i += 2;
+    }
 }

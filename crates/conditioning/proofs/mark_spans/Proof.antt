@@ -1,0 +1,114 @@
+-- What is left of the list decides what is not marked yet (`Marking`). The digits that are left are enough for what is left of the list.
+use Prim.Native.Nat.{_+_, _-_, _≤_}
+use native.Mathlib.Omega.{arith}
+use mathlib.Core.Path.{_≡_}
+use mathlib.Core.Bool.{false}
+use lib.ListN.{length, drop}
+use borrow.Author.Needs.{needs}
+use Rattle.meaning.specs.Actions.{casOf}
+use Rattle.meaning.specs.Conditioning.{short}
+use Rattle.conditioning.proofs.Walk.{enough-for}
+use Rattle.conditioning.proofs.Marking.{Marking, marking-none, marking-all, marking-more}
+use Rattle.conditioning.proofs.mark_spans.Statement.{statement}
+use Rattle.conditioning.proofs.mark_spans.Tie as tie
+
+abbrev Inv-loop : tie.InvT-loop
+Inv-loop cas prefix n first starts₀ counts₀ taken₀ left₀ i₀ starts counts taken left i =
+    (i ≤ length cas) × (taken + left ≡ n) × (short prefix left (casOf (drop i cas)) ≡ false) × (length starts ≡ 11) × (length counts ≡ 11)
+    × Marking first prefix n (casOf cas) taken left (casOf (drop i cas)) starts counts
+
+abbrev μ-loop : tie.MeasureT-loop
+μ-loop cas prefix n first starts₀ counts₀ taken₀ left₀ i₀ starts counts taken left i = length cas - i
+
+-- the digits that are left are enough for the action at hand and for those behind it
+enough-here : (c : tie.After-width Inv-loop μ-loop) →
+    let l = c .before .before .before .before in
+    let args = l .before .before .before .before .args in
+    (c .width .result ≤ l .loop .left) × (short (args .prefix) (l .loop .left - c .width .result) (casOf (drop (l .loop .i + 2) (args .cas .now))) ≡ false)
+enough-here c =
+    let l = c .before .before .before .before in
+    enough-for (l .before .before .before .before .args .prefix) (l .loop .left) (c .width .ensures) (c .before .before .before .action-at .ensures .goes (c .before .if1 .left)) (l .loop .inv .2)
+
+loop-holds : tie.Need-loop-holds Inv-loop μ-loop
+loop-holds c = let p = c .before .before .before .pre in (search needs, search needs, p .enough, p .starts-long, p .counts-long, marking-none p)
+
+action-at-requires : tie.Need-action-at-requires Inv-loop μ-loop
+action-at-requires c κs = search needs
+
+same-length : tie.Need-same-length Inv-loop μ-loop
+same-length c = search needs
+
+same-length-2 : tie.Need-same-length-2 Inv-loop μ-loop
+same-length-2 c = search needs
+
+returns : tie.Need-returns Inv-loop μ-loop
+returns c =
+    let l = c .before .before .before in
+    let rest = c .before .before .action-at .ensures .ends (c .if1 .taken) in
+    marking-all (λ v. rw rest at (l .loop .inv .5 v))
+
+width-requires : tie.Need-width-requires Inv-loop μ-loop
+width-requires c κs = search needs
+
+value-taken-requires : tie.Need-value-taken-requires Inv-loop μ-loop
+value-taken-requires c κs = search needs
+
+add-mark : tie.Need-add-mark Inv-loop μ-loop
+add-mark c =
+    let l = c .before .before .before .before .before in
+    let p = l .before .before .before .before .pre in
+    omega (arith, l .loop .inv .1, p .near)
+
+mark-requires : tie.Need-mark-requires Inv-loop μ-loop
+mark-requires c κs =
+    let l = c .before .before .before .before .before .before .before in
+    let small = c .before .before .value-taken .ensures .small in
+    (omega (arith, small, l .loop .inv .3), omega (arith, small, l .loop .inv .4))
+
+add-taken : tie.Need-add-taken Inv-loop μ-loop
+add-taken c =
+    let l = c .before .before .before .before .before .before .before .before .before .before .before .before in
+    let h = enough-here (c .before .before .before .before .before .before .before .before) in
+    omega (arith, h .0, l .loop .inv .1, l .before .before .before .before .pre .near)
+
+sub-left : tie.Need-sub-left Inv-loop μ-loop
+sub-left c = enough-here (c .before .before .before .before .before .before .before .before) .0
+
+add-i : tie.Need-add-i Inv-loop μ-loop
+add-i c = omega (arith, c .before .before .before .before .before .before .before .before .before .before .before .action-at .ensures .inside (c .before .before .before .before .before .before .before .before .before .if1 .left))
+
+loop-less : tie.Need-loop-less Inv-loop μ-loop
+loop-less c = omega (arith, c .before .before .before .before .before .before .before .before .before .before .before .action-at .ensures .inside (c .before .before .before .before .before .before .before .before .before .if1 .left))
+
+loop-again : tie.Need-loop-again Inv-loop μ-loop
+loop-again c =
+    let l = c .before .before .before .before .before .before .before .before .before .before .before .before in
+    let p = l .before .before .before .before .pre in
+    let read = c .before .before .before .before .before .before .before .before .before .before .before .action-at .ensures in
+    let goes = c .before .before .before .before .before .before .before .before .before .if1 .left in
+    let w = c .before .before .before .before .before .before .before .before .width .ensures in
+    let takes = c .before .before .before .before .before .before .before .value-taken .ensures in
+    let h = enough-here (c .before .before .before .before .before .before .before .before) in
+    let m = marking-more takes w (p .not-zero) (omega (arith, h .0, l .loop .inv .1)) (l .loop .starts) (l .loop .counts) (read .goes goes) (l .loop .inv .5) (omega (arith, takes .small, l .loop .inv .3)) (omega (arith, takes .small, l .loop .inv .4)) (c .before .before .before .before .mark .ensures) in
+    (read .inside goes, omega (arith, h .0, l .loop .inv .1), h .1, search needs, search needs, m)
+
+pub mark-spans-spec : {M : Type 1} → statement M
+mark-spans-spec =
+    tie.close
+    (tie.spec
+    Inv-loop
+    μ-loop
+    loop-holds
+    action-at-requires
+    same-length
+    same-length-2
+    returns
+    width-requires
+    value-taken-requires
+    add-mark
+    mark-requires
+    add-taken
+    sub-left
+    add-i
+    loop-less
+    loop-again)

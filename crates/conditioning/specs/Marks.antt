@@ -1,0 +1,42 @@
+-- A table of the stretches that conditioning takes: at each value's number, the place of its first digit and how many digits it has.
+use Prim.Native.Nat.{ℕ, _+_, _≤_, _<_}
+use mathlib.Core.Path.{_≡_}
+use mathlib.Core.Logic.{_≢_}
+use mathlib.Core.Bool.{false}
+use mathlib.Core.List.{List}
+use lib.ListN.{length, getD, set}
+use lib.Dec.{eqb}
+use Rattle.meaning.specs.Actions.{CA, casOf}
+use Rattle.meaning.specs.Conditioning.{short, Stretch, takesValue, stretchOf}
+
+-- r is the value whose digits an action takes; 0 is that of none
+pub record Takes (a : CA) (r : ℕ) : Type 0 where
+  pub is : (v : ℕ) → 0 < v → takesValue v a ≡ eqb r v
+  pub small : r ≤ 10
+
+-- the table before and after a mark at v: what is marked stays
+pub record MarksOnce (v start count : ℕ) (starts counts starts' counts' : List ℕ) : Type 0 where
+  pub new : getD starts v 0 ≡ 0 → (starts' ≡ set starts v start) × (counts' ≡ set counts v count)
+  pub kept : getD starts v 0 ≢ 0 → (starts' ≡ starts) × (counts' ≡ counts)
+
+-- n digits that are enough, the place of the first of them, and a table in which nothing is marked
+pub record Markable (prefix n first : ℕ) (cas starts counts : List ℕ) : Type 0 where
+  pub enough : short prefix n (casOf cas) ≡ false
+  pub not-zero : 0 < first
+  pub near : first + n ≤ 255
+  pub starts-long : length starts ≡ 11
+  pub counts-long : length counts ≡ 11
+  pub starts-none : (v : ℕ) → getD starts v 0 ≡ 0
+  pub counts-none : (v : ℕ) → getD counts v 0 ≡ 0
+
+-- the stretch s of a value, within n digits, is marked; where an empty one begins is of no account
+pub record Marks (first n : ℕ) (s : Stretch) (start count : ℕ) : Type 0 where
+  pub within : s .start + s .count ≤ n
+  pub counted : count ≡ s .count
+  pub begins : count ≢ 0 → start ≡ first + s .start
+
+-- so is that of every value, and nothing reaches past the digits
+pub record MarksAll (prefix n first : ℕ) (xs : List CA) (starts counts : List ℕ) : Type 0 where
+  pub low : (v : ℕ) → getD starts v 0 ≤ first + n
+  pub few : (v : ℕ) → getD counts v 0 ≤ n
+  pub marks : (v : ℕ) → 0 < v → Marks first n (stretchOf v prefix n xs) (getD starts v 0) (getD counts v 0)
