@@ -62,9 +62,3 @@ seam-block {x} {m} {s} {i} g j n seen new inside {last} e =
       bytes = b;
       long = ap length b ∙ (length-append (take (j + n) x) (drop (j + n) m) ∙ omega (arith, length-take-le (j + n) x inside, length-drop (j + n) m, g .room));
     }
-
--- the sixteen bytes of x from place j on, as a copier is lent them
-pub seam-sixteen : (j : ℕ) (x : List ℕ) {m s : List ℕ} {i : ℕ} → Seam x m i s → j ≤ i → i ≤ j + 16 → j + 16 ≤ length x
-    → {last : List ℕ} → last ≡ writtenOver (take 16 (take (length x - j) (drop j x))) (midOf j (length s - j) s) → Seam x m (j + 16) (putMid j (length s - j) s last)
-seam-sixteen j x {m} {s} {i} g seen new inside {last} e =
-    seam-block g j 16 seen new inside (e ∙ ap (λ (y : List ℕ). writtenOver y (midOf j (length s - j) s)) (take-take 16 (length x - j) (drop j x) (omega arith)))

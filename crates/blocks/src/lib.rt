@@ -52,21 +52,6 @@ pub fn copy_sixteen(to: &mut [u8], from: &[u8])
     put_eight(&mut to[8..], high);
 }
 
-// The bytes of one part, sixteen or more, over the front of another; the bytes behind them stay. The last block ends where they end, and so may begin with bytes that
-// are copied already.
-pub fn copy_blocks(to: &mut [u8], from: &[u8])
-    requires { ⌜ (16 ≤ length (now from)) × (length (now from) ≤ length (now to)) ⌝ }
-    ensures { λ _. ⌜ now (to .exit) ≡ writtenOver (now (from .entry)) (now (to .entry)) ⌝ }
-{
-    let last = from.len() - 16;
-    let mut i: usize = 0;
-    while i < last {
-        copy_sixteen(&mut to[i..], &from[i..]);
-        i += 16;
-    }
-    copy_sixteen(&mut to[last..], &from[last..]);
-}
-
 // The bits that eight places may not have of which the first k are digits and the others unused.
 fn forbidden(k: usize) -> u64
     ensures { λ r. ⌜ r ≡ littleEndian (masks k 8) ⌝ }

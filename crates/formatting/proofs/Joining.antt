@@ -1,31 +1,29 @@
--- Joined values: what is left of a list of codes decides. And which values the outgoing digits and the conditioned number join.
+-- Joined values: what is left of a list of codes decides. And which values the outgoing digits join.
 use Prim.Native.Nat.{ℕ, zero, suc, _+_, _-_, _≤_, _<_}
 use mathlib.Core.Path.{_≡_, refl, sym, ap, subst, _∙_}
 use mathlib.Core.Bool.{Bool, true, false, _||_}
 use mathlib.Core.List.{List, [], _∷_, _++_, append-assoc, append-nil}
-use native.Mathlib.Nat.{sub-zero}
 use native.Mathlib.Omega.{arith}
 use lib.ListN.{length, take, drop, getD, length-append}
 use lib.Seq.{take-append-add, length-take-le, drop-length}
 use lib.Dec.{T, leb, eqb}
 use borrow.Author.Tests.{eq-eqb, le-leb, lt-leb, leb-true, leb-false}
 use borrow.Rule.Slice.PartMut.{putMid, midOf, post-is, same-len-mid}
-use Rattle.meaning.specs.Basics.{if_then_else_, contains, writtenOver}
+use Rattle.meaning.specs.Basics.{if_then_else_, contains}
 use Rattle.meaning.specs.Settings.{Settings, Lookup, settingsOf, lookupOf}
-use Rattle.meaning.specs.Actions.{RN, ZN, DN, CA, casOf, codesOf}
-use Rattle.meaning.specs.Groups.{isSet}
-use Rattle.meaning.specs.Conditioning.{valueFrom, conditionedFrom}
-use Rattle.meaning.specs.Services.{Stage, rnSet, valueToSend, join}
+use Rattle.meaning.specs.Actions.{RN, casOf, codesOf}
+use Rattle.meaning.specs.Conditioning.{valueFrom}
+use Rattle.meaning.specs.Services.{rnSet, valueToSend, join}
 use Rattle.meaning.proofs.Tests.{is-true}
 use Rattle.services.specs.declared.Served.{Served}
 use Rattle.services.specs.Stages.{stageOf, stageAfter, ServedAs}
 use Rattle.formatting.specs.Values.{valueSent}
-use Rattle.formatting.specs.Joins.{outgoing, conditioned, conditionedCodes, Writes, JoinsInto}
+use Rattle.formatting.specs.Joins.{outgoing, JoinsInto}
 
 -- WHICH VALUES
 
 -- two values that agree on every code of a list join alike
-join-same : (u v : ℕ → List ℕ) (cs : List ℕ) → ((f : ℕ) → T (contains f cs) → u f ≡ v f) → join u cs ≡ join v cs
+pub join-same : (u v : ℕ → List ℕ) (cs : List ℕ) → ((f : ℕ) → T (contains f cs) → u f ≡ v f) → join u cs ≡ join v cs
 join-same u v [] h = refl
 join-same u v (c ∷ cs) h =
     let a : u c ≡ v c = h c (rw (eq-eqb c c refl) tt) in
@@ -79,23 +77,6 @@ pub outgoing-after : {placed : List ℕ → List ℕ} {sas settings lookup : Lis
     ≡ join (valueToSend (settingsOf settings) (valueFrom (settingsOf settings .country) prefix digits (casOf cas)) (stageAfter (codesOf fas) sas settings lookup)) (codesOf fas)
 unfolding outgoing
 outgoing-after s digits cas prefix fas = rw (s .stage (codesOf fas))
-
--- the conditioned number joins values that no service sets
-conditioned-by : (xs : List CA) (settings : Settings) (value : ℕ → List ℕ) (s : Stage) → join (valueToSend settings value s) (conditionedCodes xs) ≡ conditionedFrom xs value
-unfolding conditionedCodes conditionedFrom valueToSend
-conditioned-by xs settings value s = go (isSet ZN xs) (isSet DN xs)
-  where
-    go : (z d : Bool) → join (valueToSend settings value s) (if z then (5 ∷ []) else if d then (1 ∷ 4 ∷ []) else (1 ∷ 2 ∷ 3 ∷ []))
-        ≡ (if z then value 5 else if d then value 1 ++ value 4 else value 1 ++ (value 2 ++ value 3))
-    go true d = append-nil (value 5)
-    go false true = rw append-nil
-    go false false = rw append-nil
-
-pub conditioned-is : (settings lookup digits cas : List ℕ) (prefix : ℕ) (served : Served) (codes : List ℕ) → codesOf codes ≡ conditionedCodes (casOf cas)
-    → outgoing settings lookup digits cas prefix served codes ≡ conditioned settings digits cas prefix
-unfolding outgoing conditioned
-conditioned-is settings lookup digits cas prefix served codes e =
-    rw e (conditioned-by (casOf cas) (settingsOf settings) (valueFrom (settingsOf settings .country) prefix digits (casOf cas)) _)
 
 -- HOW A LOOP OVER THE CODES GOES ON
 
@@ -164,7 +145,3 @@ module _ {ds exit : List ℕ} {most r : ℕ} (j : JoinsInto ds most exit r) wher
 module _ {ds exit : List ℕ} {most r : ℕ} (j : JoinsInto ds most exit r) (h : length ds ≤ most) where
   pub joined-count : r ≡ length ds
   joined-count = j .count ∙ rw (le-leb (length ds) most h)
-
-  -- they are copied to the front of another buffer
-  pub joined-copied : (out after : List ℕ) → after ≡ writtenOver (take (r - 0) exit) out → Writes ds out after r
-  joined-copied out after e = record { written = e ∙ rw (sub-zero, j .digits h); count = joined-count }

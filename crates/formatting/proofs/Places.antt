@@ -4,18 +4,12 @@ use mathlib.Core.Path.{_≡_, refl, sym, ap, subst, _∙_}
 use mathlib.Core.List.{List, [], _++_, append-assoc}
 use native.Mathlib.Numerals.{add-one}
 use native.Mathlib.Omega.{arith}
-use borrow.Rule.Slice.PartMut.{putMid, midOf}
-use lib.ListN.{length, take, drop, getD, replicate, length-append, length-take, length-drop}
+use lib.ListN.{length, take, drop, getD, length-append, length-take, length-drop}
 use lib.Seq.{take-all, take-take, take-add, take-at, drop-at, take-append-le, drop-append-le, drop-drop, drop-cons, getD-take, getD-drop, length-take-le}
 use Rattle.meaning.specs.Basics.{part, digitsOf, writtenOver}
-use Rattle.meaning.specs.Conditioning.{Stretch, digitsAt}
 use Rattle.meaning.specs.declared.Span.{Span}
 use Rattle.buffer.proofs.ListLaws.{part-part}
-use Rattle.conditioning.specs.Spans.{Covers}
-use Rattle.buffer.specs.Zeros.{zeros}
-use Rattle.buffer.proofs.ZeroLaws.{length-zeros}
-use Rattle.blocks.proofs.OverLaws.{length-over, array-behind}
-use Rattle.formatting.specs.Sources.{sourceOf, settingsIn, lookupIn, digitsIn, Carries, Lies}
+use Rattle.formatting.specs.Sources.{sourceOf, settingsIn, lookupIn, digitsIn, Lies}
 
 -- PARTS OF A SOURCE
 
@@ -55,23 +49,10 @@ module _ (source : List ℕ) (at width n : ℕ) (room : at + width < length sour
   pub string-some : n ≤ width → Lies (digitsOf (part at (width + 1) source)) source (record { start = at + 1; count = n })
   string-some h = lies-at n h (string-is ∙ take-take n width (drop (at + 1) source) h)
 
--- a stretch of the first n digits
+-- the first n digits
 module _ (source : List ℕ) (n : ℕ) (long : length source ≡ 144) (few : n ≤ 32) where
   pub digits-long : length (digitsIn n source) ≡ n
   digits-long = length-take-le n (drop 2 source) (rw length-drop (omega arith))
-
-  pub stretch-lies : (s : Stretch) (r : Span) → Covers n s r → Lies (digitsAt s (digitsIn n source)) source (record { start = 2 + r .start; count = r .count })
-  stretch-lies s r c =
-      let e : part (r .start) (r .count) (digitsIn n source) ≡ digitsAt s (digitsIn n source) =
-      ap (λ (x : Span). part (x .start) (x .count) (digitsIn n source)) (c .same) in
-      let p : part (2 + r .start) (r .count) source ≡ digitsAt s (digitsIn n source) =
-      sym (part-within (r .start) (r .count) 2 n source (c .inside)) ∙ e in
-      record {
-        is = p;
-        count = sym (ap length (sym p) ∙ length-take-le (r .count) (drop (2 + r .start) source) (rw length-drop (omega (arith, c .inside))));
-        low = omega (arith, c .inside);
-        few = omega (arith, c .inside);
-      }
 
 -- BLOCKS
 
@@ -131,29 +112,3 @@ module _ (settings body buffer : List ℕ) (s : length settings ≡ 36) (b : len
   source-part a n h =
       ap (take n) (drop-append-le a body (settings ++ drop 109 buffer) (omega arith))
       ∙ take-append-le n (drop a body) (settings ++ drop 109 buffer) (rw length-drop (omega arith))
-
--- digits alone: a body that has nothing else
-pub bare-is : (digits : List ℕ) → length digits ≤ 32 → (last : List ℕ) → last ≡ writtenOver digits (midOf 2 71 (replicate 73 0))
-    → putMid 2 71 (replicate 73 0) last ≡ writtenOver (zeros 2 ++ digits) (zeros 73)
-unfolding zeros
-bare-is digits few last e = array-behind (zeros 2) digits (zeros 73) 2 71 refl refl refl (omega arith) last e
-
-module _ (digits body : List ℕ) (few : length digits ≤ 32) (is : body ≡ writtenOver (zeros 2 ++ digits) (zeros 73)) where
-  front-long : length (zeros 2 ++ digits) ≡ 2 + length digits
-  front-long = length-append (zeros 2) digits ∙ rw length-zeros
-
-  pub bare-long : length body ≡ 73
-  bare-long = ap length is ∙ (length-over (zeros 2 ++ digits) (zeros 73) (rw (front-long, length-zeros) (omega arith)) ∙ length-zeros 73)
-
-  pub bare-digits : part 2 (length digits) body ≡ digits
-  bare-digits =
-      rw (is, append-assoc, drop-at (zeros 2) (digits ++ drop (length (zeros 2 ++ digits)) (zeros 73)) 2 (length-zeros 2))
-      (take-at digits (drop (length (zeros 2 ++ digits)) (zeros 73)) (length digits) refl)
-
-  pub bare-carries : (settings buffer : List ℕ) → length settings ≡ 36 → length buffer ≡ 144 → Carries settings digits (sourceOf settings body buffer)
-  bare-carries settings buffer s l =
-      record {
-        long = source-long settings body buffer s bare-long l;
-        settings-are = source-settings settings body buffer s bare-long;
-        digits-are = source-part settings body buffer s bare-long 2 (length digits) (omega arith) ∙ bare-digits;
-      }

@@ -37,7 +37,6 @@ outgoingIn source n cas prefix served fas = outgoing (settingsIn source) (lookup
 -- the settings, and digits that are enough for the conditioning actions
 pub record Conditionable (settings digits cas : List ℕ) (prefix : ℕ) : Type 0 where
   pub settings-long : length settings ≡ 36
-  pub digits-few : length digits ≤ 32
   pub enough : short prefix (length digits) (casOf cas) ≡ false
 
 -- the digits ds are written at the front of the buffer `entry`, and r is how many they are

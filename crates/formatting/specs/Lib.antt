@@ -1,3 +1,4 @@
 pub mod Values
 pub mod Sources
 pub mod Joins
+pub mod Tables

@@ -8,8 +8,6 @@ use Rattle.meaning.specs.Basics.{part}
 use Rattle.meaning.specs.Actions.{casOf}
 use Rattle.meaning.specs.Conditioning.{short}
 use Rattle.meaning.specs.declared.Span.{Span}
-use Rattle.services.specs.declared.Served.{Served}
-use Rattle.formatting.specs.Values.{valueSent}
 
 -- a body of 73 bytes and settings of 36, at the front of a buffer; behind them is room for a block that is taken whole
 unfoldable pub sourceOf : List ℕ → List ℕ → List ℕ → List ℕ
@@ -26,15 +24,12 @@ lookupIn source = part 34 39 source
 abbrev pub digitsIn : ℕ → List ℕ → List ℕ
 digitsIn n source = part 2 n source
 
--- document 01's value of an FA, for the number, the lookup and the settings that a source has
-abbrev pub valueIn : List ℕ → ℕ → List ℕ → ℕ → Served → ℕ → List ℕ
-valueIn source n cas prefix served f = valueSent (settingsIn source) (lookupIn source) (digitsIn n source) cas prefix served f
-
--- a source that has these settings and digits
-pub record Carries (settings digits source : List ℕ) : Type 0 where
-  pub long : length source ≡ 144
-  pub settings-are : settingsIn source ≡ settings
-  pub digits-are : digitsIn (length digits) source ≡ digits
+-- the settings, and a body whose n digits are enough for the conditioning actions
+pub record Formattable (settings body : List ℕ) (n : ℕ) (cas : List ℕ) (prefix : ℕ) : Type 0 where
+  pub settings-long : length settings ≡ 36
+  pub body-long : length body ≡ 73
+  pub few : n ≤ 32
+  pub enough : short prefix n (casOf cas) ≡ false
 
 -- a source, and n digits that are enough for the conditioning actions
 pub record Taking (source : List ℕ) (n : ℕ) (cas : List ℕ) (prefix : ℕ) : Type 0 where

@@ -2,14 +2,14 @@
 use actions::code_at;
 use actions::has_code;
 use actions::is_set;
-use blocks::copy_blocks;
 use blocks::copy_sixteen;
 use buffer::copy;
 use buffer::wide;
-use conditioning::span_of;
+use conditioning::PLACES;
+use conditioning::mark_spans;
+use conditioning::stretch_in;
 use meaning::Span;
 use services::Served;
-use services::unserved;
 ghost use mathlib.Core.Path.{_≡_};
 ghost use Prim.Native.Nat.{_+_, _≤_, _<_};
 ghost use lib.ListN.{length, take};
@@ -17,9 +17,11 @@ ghost use Rattle.meaning.specs.Basics.{part, digitsOf};
 ghost use Rattle.meaning.specs.Settings.{settingsOf};
 ghost use Rattle.meaning.specs.Actions.{casOf, codesOf};
 ghost use Rattle.meaning.specs.Conditioning.{valueFrom};
+ghost use Rattle.meaning.specs.Services.{join};
 ghost use Rattle.formatting.specs.Values.{digitsIf, rnOf, spOf, serviceValue};
-ghost use Rattle.formatting.specs.Sources.{sourceOf, settingsIn, lookupIn, digitsIn, valueIn, Carries, Held, Taking, Lies};
-ghost use Rattle.formatting.specs.Joins.{conditioned, conditionedCodes, outgoingIn, Conditionable, Writes, JoinsInto};
+ghost use Rattle.formatting.specs.Sources.{settingsIn, lookupIn, Formattable, Held, Taking, Lies};
+ghost use Rattle.formatting.specs.Tables.{Blank, Table, Places, placedValue};
+ghost use Rattle.formatting.specs.Joins.{outgoing, conditioned, conditionedCodes, outgoingIn, Conditionable, Writes, JoinsInto};
 
 const CC: u8 = 1;
 
@@ -52,7 +54,7 @@ const CCDEF: u8 = 15;
 // A SOURCE: the body of a number and, behind it, the settings
 
 // The bytes of a source: behind the settings, room for a block that is taken whole.
-pub const SOURCE_BYTES: usize = 144;
+const SOURCE_BYTES: usize = 144;
 
 // Where a source has the digits of the number, the kind of its lookup, and each string of the lookup and of the settings.
 const DIGITS: usize = 2;
@@ -77,15 +79,6 @@ const DFLTRN: usize = 77;
 const DELIMITER_A_STRING: usize = 93;
 
 const DELIMITER_B_STRING: usize = 99;
-
-// Makes the source of a number's values.
-pub fn fill_source(settings: &[u8], body: &[u8], source: &mut [u8])
-    requires { ⌜ (length (now settings) ≡ 36) × (length (now body) ≡ 73) × (length (now source) ≡ 144) ⌝ }
-    ensures { λ _. ⌜ now (source .exit) ≡ sourceOf (now (settings .entry)) (now (body .entry)) (now (source .entry)) ⌝ }
-{
-    copy_blocks(source, &body[0..SETTINGS]);
-    copy_blocks(&mut source[SETTINGS..], &settings[0..SETTINGS_BYTES]);
-}
 
 // WHERE A VALUE LIES
 
@@ -160,28 +153,42 @@ fn service_value(source: &[u8], served: Served, f: u8) -> Span
     }
 }
 
-// A value as conditioning sets it, of a number of n digits: CC by CCDEF the default country code, else the stretch of the number that it covers.
-fn conditioned_value(source: &[u8], n: usize, cas: &[u8], prefix: usize, v: u8) -> Span
-    requires { ⌜ Taking (now source) n (now cas) prefix ⌝ }
-    ensures { λ r. ⌜ Lies (valueFrom (settingsOf (settingsIn (now (source .entry))) .country) prefix (digitsIn n (now (source .entry))) (casOf (now (cas .entry))) v) (now (source .entry)) r ⌝ }
+// A TABLE of where the values that conditioning sets lie
+
+// The place of CC in a table.
+const CC_PLACE: usize = 1;
+
+// Makes the table of a number of n digits: CC by CCDEF is the default country code, any other value the stretch of the number that it covers.
+fn place_values(
+    source: &[u8],
+    n: usize,
+    cas: &[u8],
+    prefix: usize,
+    starts: &mut [usize],
+    counts: &mut [usize],
+)
+    requires { ⌜ Taking (now source) n (now cas) prefix × Blank (now starts) × Blank (now counts) ⌝ }
+    ensures { λ _. ⌜ Places (now (source .entry)) n (now (cas .entry)) prefix (now (starts .exit)) (now (counts .exit)) ⌝ }
 {
-    if v == CC && has_code(cas, CCDEF) {
-        return string_at(source, COUNTRY, 3);
-    }
-    let s = span_of(cas, prefix, n, v);
-    Span {
-        start: DIGITS + s.start,
-        count: s.count,
+    mark_spans(cas, prefix, n, DIGITS, starts, counts);
+    if has_code(cas, CCDEF) {
+        let country = string_at(source, COUNTRY, 3);
+        starts[CC_PLACE] = country.start;
+        counts[CC_PLACE] = country.count;
     }
 }
 
 // The value that a formatting action sends.
-fn value_to_send(source: &[u8], n: usize, cas: &[u8], prefix: usize, served: Served, f: u8) -> Span
-    requires { ⌜ Taking (now source) n (now cas) prefix ⌝ }
-    ensures { λ r. ⌜ Lies (valueIn (now (source .entry)) n (now (cas .entry)) prefix served f) (now (source .entry)) r ⌝ }
+fn value_to_send(source: &[u8], starts: &[usize], counts: &[usize], served: Served, f: u8) -> Span
+    requires { ⌜ Table (now source) (now starts) (now counts) ⌝ }
+    ensures { λ r. ⌜ Lies (placedValue (now (source .entry)) (now (starts .entry)) (now (counts .entry)) served f) (now (source .entry)) r ⌝ }
 {
     if f <= LAST_CONDITIONED {
-        return conditioned_value(source, n, cas, prefix, f);
+        let v = wide(f);
+        return Span {
+            start: starts[v],
+            count: counts[v],
+        };
     }
     service_value(source, served, f)
 }
@@ -201,9 +208,40 @@ fn put_value(source: &[u8], value: Span, out: &mut [u8])
     }
 }
 
-// The values of the formatting actions, each directly behind the one before, at the front of a buffer that has room for `most` digits and two blocks; one more than
-// `most` where they have more.
-pub fn join_values(
+// The values of the formatting actions by a table, each directly behind the one before, at the front of a buffer that has room for `most` digits and two blocks;
+// one more than `most` where they have more.
+fn join_placed(
+    source: &[u8],
+    starts: &[usize],
+    counts: &[usize],
+    served: Served,
+    fas: &[u8],
+    most: usize,
+    out: &mut [u8],
+) -> usize
+    requires { ⌜ Table (now source) (now starts) (now counts) × (most ≤ 35) × (most + 32 ≤ length (now out)) ⌝ }
+    ensures { λ r. ⌜ JoinsInto (join (placedValue (now (source .entry)) (now (starts .entry)) (now (counts .entry)) served) (codesOf (now (fas .entry)))) most (now (out .exit)) r ⌝ }
+{
+    let mut end: usize = 0;
+    let mut i = 0;
+    loop {
+        let f = code_at(fas, i);
+        if f == 0 {
+            return end;
+        }
+        let value = value_to_send(source, starts, counts, served, f);
+        let count = value.count;
+        if most < end + count {
+            return most + 1;
+        }
+        put_value(source, value, &mut out[end..]);
+        end += count;
+        i += 1;
+    }
+}
+
+// The same by the conditioning and formatting actions, for a number of n digits.
+fn join_values(
     source: &[u8],
     n: usize,
     cas: &[u8],
@@ -216,22 +254,32 @@ pub fn join_values(
     requires { ⌜ Taking (now source) n (now cas) prefix × (most ≤ 35) × (most + 32 ≤ length (now out)) ⌝ }
     ensures { λ r. ⌜ JoinsInto (outgoingIn (now (source .entry)) n (now (cas .entry)) prefix served (now (fas .entry))) most (now (out .exit)) r ⌝ }
 {
-    let mut end: usize = 0;
-    let mut i = 0;
-    loop {
-        let f = code_at(fas, i);
-        if f == 0 {
-            return end;
-        }
-        let value = value_to_send(source, n, cas, prefix, served, f);
-        let count = value.count;
-        if most < end + count {
-            return most + 1;
-        }
-        put_value(source, value, &mut out[end..]);
-        end += count;
-        i += 1;
-    }
+    let mut starts = [0usize; PLACES];
+    let mut counts = [0usize; PLACES];
+    place_values(source, n, cas, prefix, &mut starts, &mut counts);
+    join_placed(source, &starts, &counts, served, fas, most, out)
+}
+
+// The outgoing digits of a number, of whose body n digits are used: the values of the formatting actions, each directly behind the one before, at the front of a
+// buffer that has room for `most` digits and two blocks; one more than `most` where they have more.
+pub fn join_outgoing(
+    settings: &[u8],
+    body: &[u8],
+    n: usize,
+    cas: &[u8],
+    prefix: usize,
+    served: Served,
+    fas: &[u8],
+    most: usize,
+    out: &mut [u8],
+) -> usize
+    requires { ⌜ Formattable (now settings) (now body) n (now cas) prefix × (most ≤ 35) × (most + 32 ≤ length (now out)) ⌝ }
+    ensures { λ r. ⌜ JoinsInto (outgoing (now (settings .entry)) (part 34 39 (now (body .entry))) (part 2 n (now (body .entry))) (now (cas .entry)) prefix served (now (fas .entry))) most (now (out .exit)) r ⌝ }
+{
+    let mut source = [0u8; SOURCE_BYTES];
+    copy(&mut source, &body[0..SETTINGS]);
+    copy(&mut source[SETTINGS..], &settings[0..SETTINGS_BYTES]);
+    join_values(&source, n, cas, prefix, served, fas, most, out)
 }
 
 // THE CONDITIONED NUMBER
@@ -249,55 +297,58 @@ fn conditioned_codes(cas: &[u8]) -> [u8; 3]
     [CC, AC, SN]
 }
 
-// Makes a source of digits alone, without a lookup.
-fn fill_source_of_digits(settings: &[u8], digits: &[u8], source: &mut [u8])
-    requires { ⌜ (length (now settings) ≡ 36) × (length (now digits) ≤ 32) × (length (now source) ≡ 144) ⌝ }
-    ensures { λ _. ⌜ Carries (now (settings .entry)) (now (digits .entry)) (now (source .exit)) ⌝ }
+// The default country code.
+fn country_of(settings: &[u8]) -> &[u8]
+    requires { ⌜ length (now settings) ≡ 36 ⌝ }
+    ensures { λ r. ⌜ now r ≡ settingsOf (now (settings .entry)) .country ⌝ }
 {
-    let mut body = [0u8; 73];
-    copy(&mut body[DIGITS..], digits);
-    fill_source(settings, &body, source);
+    let n = wide(settings[0]);
+    let country = &settings[1..4];
+    if n < country.len() {
+        return &country[0..n];
+    }
+    country
 }
 
-// The conditioned number at the front of a buffer that has room for 35 digits and two blocks.
-fn join_conditioned(
-    settings: &[u8],
-    digits: &[u8],
+// A value as conditioning sets it, as a part of what it is taken from: of the settings where it is CC by CCDEF, else of the number.
+fn conditioned_part<'a>(
+    settings: &'a [u8],
+    digits: &'a [u8],
+    cas: &[u8],
+    prefix: usize,
+    v: u8,
+) -> &'a [u8]
+    requires { ⌜ Conditionable (now settings) (now digits) (now cas) prefix ⌝ }
+    ensures { λ r. ⌜ now r ≡ valueFrom (settingsOf (now (settings .entry)) .country) prefix (now (digits .entry)) (casOf (now (cas .entry))) v ⌝ }
+{
+    if has_code(cas, CCDEF) && v == CC {
+        return country_of(settings);
+    }
+    stretch_in(cas, prefix, digits, v)
+}
+
+// The conditioned number at the front of the buffer, each value directly behind the one before; the bytes behind it stay. No lookup is asked for.
+pub fn write_conditioned<'a>(
+    settings: &'a [u8],
+    digits: &'a [u8],
     cas: &[u8],
     prefix: usize,
     out: &mut [u8],
 ) -> usize
-    requires { ⌜ Conditionable (now settings) (now digits) (now cas) prefix × (67 ≤ length (now out)) ⌝ }
-    ensures { λ r. ⌜ JoinsInto (conditioned (now (settings .entry)) (now (digits .entry)) (now (cas .entry)) prefix) 35 (now (out .exit)) r ⌝ }
-{
-    let mut source = [0u8; SOURCE_BYTES];
-    fill_source_of_digits(settings, digits, &mut source);
-    let codes = conditioned_codes(cas);
-    join_values(
-        &source,
-        digits.len(),
-        cas,
-        prefix,
-        unserved([0u8; 8]),
-        &codes,
-        35,
-        out,
-    )
-}
-
-// The conditioned number at the front of the buffer; the bytes behind it stay. No lookup is asked for.
-pub fn write_conditioned(
-    settings: &[u8],
-    digits: &[u8],
-    cas: &[u8],
-    prefix: usize,
-    out: &mut [u8],
-) -> usize
-    requires { ⌜ Conditionable (now settings) (now digits) (now cas) prefix × (length (conditioned (now settings) (now digits) (now cas) prefix) ≤ 35) × (35 ≤ length (now out)) ⌝ }
+    requires { ⌜ Conditionable (now settings) (now digits) (now cas) prefix × (length (conditioned (now settings) (now digits) (now cas) prefix) ≤ length (now out)) ⌝ }
     ensures { λ r. ⌜ Writes (conditioned (now (settings .entry)) (now (digits .entry)) (now (cas .entry)) prefix) (now (out .entry)) (now (out .exit)) r ⌝ }
 {
-    let mut number = [0u8; 67];
-    let n = join_conditioned(settings, digits, cas, prefix, &mut number);
-    copy(out, &number[0..n]);
-    n
+    let codes = conditioned_codes(cas);
+    let mut end = 0;
+    let mut i = 0;
+    loop {
+        let v = code_at(&codes, i);
+        if v == 0 {
+            return end;
+        }
+        let value = conditioned_part(settings, digits, cas, prefix, v);
+        copy(&mut out[end..], value);
+        end += value.len();
+        i += 1;
+    }
 }

@@ -21,11 +21,10 @@ use Rattle.meaning.specs.declared.Answered.{Answered}
 use Rattle.services.specs.declared.Served.{Served}
 use Rattle.services.specs.Stages.{stageAfter, ServedAnew, Serviceable}
 use Rattle.services.proofs.Going.{response-after, withheld-after, responded-after}
-use Rattle.formatting.specs.Sources.{sourceOf}
-use Rattle.formatting.specs.Joins.{outgoing, outgoingIn, JoinsInto}
-use Rattle.formatting.proofs.Places.{source-settings, source-part}
-use Rattle.formatting.proofs.Joining.{outgoing-after, joins-as, joined-count, joined-few, joined-many}
-use Rattle.number.specs.Answering.{countedAs, servedBy, finished, answerWith, givenBy, lookupOfBody, digitsOfBody, Finishable, Answerable}
+use Rattle.formatting.specs.Sources.{Formattable}
+use Rattle.formatting.specs.Joins.{outgoing, JoinsInto}
+use Rattle.formatting.proofs.Joining.{outgoing-after, joined-count, joined-few, joined-many}
+use Rattle.number.specs.Answering.{countedAs, servedBy, finished, answerWith, givenBy, lookupOfBody, digitsOfBody, Answerable}
 use Rattle.number.specs.Promises.{HoldsAnswer, GivesAnswer}
 
 -- AN ANSWER GIVEN
@@ -78,20 +77,6 @@ module _ (incoming class : ℕ) (s : Served) (ds : List ℕ) where
       pub finished-formatted : length ds ≤ 32 → finished incoming class s ds ≡ servedBy FORMATTED class s ds
       unfolding finished
       finished-formatted h = rw (lt-leb 2 (s .response) relay, w, le-leb (length ds) 32 h)
-
--- the outgoing digits that a source gives are those of its body and its settings
-pub joined-from : (settings body cas : List ℕ) (n prefix : ℕ) (s : Served) (fas buffer : List ℕ) {source after : List ℕ} {most r : ℕ} → length settings ≡ 36 → length body ≡ 73 → n ≤ 32
-    → source ≡ sourceOf settings body buffer → JoinsInto (outgoingIn source n cas prefix s fas) most after r
-    → JoinsInto (outgoing settings (lookupOfBody body) (digitsOfBody n body) cas prefix s fas) most after r
-joined-from settings body cas n prefix s fas buffer k b h is j =
-    joins-as
-    (rw (
-      is,
-      source-settings settings body buffer k b,
-      source-part settings body buffer k b 34 39 (omega arith),
-      source-part settings body buffer k b 2 n (omega arith),
-    ))
-    j
 
 -- each way after the service actions, with what the buffer holds
 module _ (incoming class : ℕ) (s : Served) (ds after : List ℕ) (r : Answered) where
@@ -174,9 +159,8 @@ module _ (settings body : List ℕ) (n : ℕ) (content out : List ℕ) (a : Answ
         kind = rw f (a .kind);
       }
 
-  pub finishable : (cas : List ℕ) (prefix : ℕ) → short prefix n (casOf cas) ≡ false → Finishable settings body n cas prefix out
-  finishable cas prefix enough =
-      record { settings-long = a .settings-long; body-long = a .body-long; few = a .few; enough = enough; room = a .room }
+  pub formattable : (cas : List ℕ) (prefix : ℕ) → short prefix n (casOf cas) ≡ false → Formattable settings body n cas prefix
+  formattable cas prefix enough = record { settings-long = a .settings-long; body-long = a .body-long; few = a .few; enough = enough }
 
 -- the rule's filter is needed for its prefix's length alone
 pub answer-with : (settings : Settings) (n : Number) (f : Filter) (s : ActionSet) (prefix : ℕ) → prefix ≡ length (f .prefix) → answerBy settings n f s ≡ answerWith settings n prefix s

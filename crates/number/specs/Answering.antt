@@ -1,7 +1,7 @@
 -- The answer to a number by the struct of its service stage, and what the functions on the way to it ask.
 use Prim.Native.Nat.{ℕ, _≤_}
 use mathlib.Core.Path.{_≡_}
-use mathlib.Core.Bool.{true, false}
+use mathlib.Core.Bool.{true}
 use mathlib.Core.List.{List, []}
 use mathlib.Core.Option.{some}
 use lib.ListN.{length, getD}
@@ -10,7 +10,7 @@ use Rattle.meaning.specs.Basics.{if_then_else_, isEmpty, part}
 use Rattle.meaning.specs.Refusals.{SHORT, LONG}
 use Rattle.meaning.specs.Settings.{Settings, Number, settingsOf, lookupOf, numberOf, numberInRange}
 use Rattle.meaning.specs.Rules.{chosenPlace}
-use Rattle.meaning.specs.Actions.{ActionSet, actionsOf, casOf}
+use Rattle.meaning.specs.Actions.{ActionSet, actionsOf}
 use Rattle.meaning.specs.Conditioning.{short, valueFrom}
 use Rattle.meaning.specs.Services.{Stage, atStart, serve, valueToSend, join}
 use Rattle.meaning.specs.Answer.{ESCAPED, RESPONDED, UNCHANGED, FORMATTED, Answer, refused, unserved, outgoingClass, afterServices}
@@ -56,14 +56,6 @@ lookupOfBody body = part 34 39 body
 
 abbrev pub digitsOfBody : ℕ → List ℕ → List ℕ
 digitsOfBody n body = part 2 n body
-
--- the settings, a body whose n digits are enough for the conditioning actions, and room for the outgoing digits and two blocks
-pub record Finishable (settings body : List ℕ) (n : ℕ) (cas : List ℕ) (prefix : ℕ) (out : List ℕ) : Type 0 where
-  pub settings-long : length settings ≡ 36
-  pub body-long : length body ≡ 73
-  pub few : n ≤ 32
-  pub enough : short prefix n (casOf cas) ≡ false
-  pub room : 64 ≤ length out
 
 -- the settings, a body of n digits with its lookup's kind in range, a set's content, and room
 pub record Answerable (settings body : List ℕ) (n : ℕ) (content out : List ℕ) : Type 0 where

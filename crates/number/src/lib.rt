@@ -2,9 +2,7 @@
 use choice::choose;
 use choice::content_at;
 use choice::prefix_at;
-use formatting::SOURCE_BYTES;
-use formatting::fill_source;
-use formatting::join_values;
+use formatting::join_outgoing;
 use services::Served;
 ghost use mathlib.Core.Path.{_≡_};
 ghost use mathlib.Core.Bool.{true};
@@ -13,9 +11,10 @@ ghost use lib.ListN.{length, getD};
 ghost use Rattle.meaning.specs.Settings.{numberOf, numberInRange};
 ghost use Rattle.meaning.specs.Answer.{refused, unserved, outgoingClass, answerOf};
 ghost use Rattle.meaning.specs.Answers.{answeredAs};
+ghost use Rattle.formatting.specs.Sources.{Formattable};
 ghost use Rattle.formatting.specs.Joins.{outgoing};
 ghost use Rattle.plan.specs.Layout.{planOf};
-ghost use Rattle.number.specs.Answering.{countedAs, finished, givenBy, lookupOfBody, digitsOfBody, Finishable, Answerable, Digits, Ready, Holdable, Placed};
+ghost use Rattle.number.specs.Answering.{countedAs, finished, givenBy, lookupOfBody, digitsOfBody, Answerable, Digits, Ready, Holdable, Placed};
 ghost use Rattle.number.specs.Promises.{HoldsAnswer, GivesAnswer, AnswerPromise};
 use meaning::Answered;
 use meaning::Chosen;
@@ -139,7 +138,7 @@ fn finish(
     class: u8,
     out: &mut [u8],
 ) -> Answered
-    requires { ⌜ Finishable (now settings) (now body) n (now cas) prefix (now out) ⌝ }
+    requires { ⌜ Formattable (now settings) (now body) n (now cas) prefix × (64 ≤ length (now out)) ⌝ }
     ensures { λ r. ⌜ HoldsAnswer (finished incoming class s (outgoing (now (settings .entry)) (lookupOfBody (now (body .entry))) (digitsOfBody n (now (body .entry))) (now (cas .entry)) prefix s (now (fas .entry)))) (now (out .exit)) r ⌝ }
 {
     if CONNECT <= s.response {
@@ -148,9 +147,7 @@ fn finish(
     if s.withheld {
         return served(UNCHANGED, incoming, s, 0);
     }
-    let mut source = [0u8; SOURCE_BYTES];
-    fill_source(settings, body, &mut source);
-    let written = join_values(&source, n, cas, prefix, s, fas, MOST, out);
+    let written = join_outgoing(settings, body, n, cas, prefix, s, fas, MOST, out);
     if MOST < written {
         return refused(LONG);
     }

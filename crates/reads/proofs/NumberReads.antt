@@ -5,10 +5,10 @@ use mathlib.Core.Bool.{true, false}
 use mathlib.Core.List.{List}
 use mathlib.Core.Option.{some}
 use lib.ListN.{length}
-use lib.Dec.{lit≤, leb→le}
+use lib.Dec.{lit≤}
 use borrow.Author.Tests.{lt-ltb, le-ltb}
 use Rattle.meaning.specs.Basics.{isEmpty}
-use Rattle.meaning.specs.Settings.{dialledRanges, dialledInRange}
+use Rattle.meaning.specs.Settings.{dialledInRange}
 use Rattle.meaning.specs.Rules.{chosenPlace, chosen}
 use Rattle.meaning.specs.Actions.{actionsOf, caBytes, casOf}
 use Rattle.meaning.specs.Conditioning.{short}
@@ -21,7 +21,7 @@ use Rattle.meaning.specs.declared.RulePlace.{RulePlace}
 use Rattle.meaning.specs.declared.Refusal.the-variants.{Plan as NoPlan, Room, Range, Short}
 use Rattle.meaning.specs.declared.Written.{Written}
 use Rattle.meaning.specs.declared.Written.the-variants.{Bytes, Refused as NotWritten}
-use Rattle.meaning.proofs.Tests.{true-is, all-at}
+use Rattle.meaning.proofs.Tests.{true-is}
 use Rattle.meaning.proofs.Soundness.{sound-of}
 use Rattle.meaning.proofs.Numbers.{every-number}
 use Rattle.formatting.specs.Joins.{conditioned as conditionedDigits, Conditionable, Writes}
@@ -70,10 +70,6 @@ module _ (m : List ℕ) (class : ℕ) (ds out : List ℕ) (r : Chosen) (given : 
 
 -- BY THE RULE AT A PLACE
 
-dialled-few : (class : ℕ) (ds : List ℕ) → dialledInRange class ds ≡ true → length ds ≤ 32
-unfolding dialledInRange
-dialled-few class ds e = leb→le (length ds) 32 (all-at 1 (dialledRanges class ds) (true-is (dialledInRange class ds) e))
-
 module _ (m : List ℕ) (k : ℕ) (ds out content cas : List ℕ) (named : NamedContent (planOf m) (rulePlaced m k) content) (cas-is : cas ≡ caBytes content) where
   -- its set's conditioning actions
   pub actions-are : actionsOf content .cas ≡ casOf cas
@@ -90,13 +86,8 @@ module _ (m : List ℕ) (k : ℕ) (ds out content cas : List ℕ) (named : Named
     number-short s = rw (named .is, actions-are, e, ← p .is, s) (record { result = record { refusal = refl; bytes = refl }; buffer = refl })
 
     module _ (settings : List ℕ) (settings-are : settings ≡ planOf m .settings) (s : short prefix (length ds) (casOf cas) ≡ false) where
-      pub number-conditionable : Applies m k ds → Conditionable settings ds cas prefix
-      number-conditionable a =
-          record {
-            settings-long = rw settings-are (sound-is m (a .is-sound) .plan .settings-size);
-            digits-few = dialled-few (a .class) ds (a .in-range);
-            enough = s;
-          }
+      pub number-conditionable : soundOf m ≡ true → Conditionable settings ds cas prefix
+      number-conditionable q = record { settings-long = rw settings-are (sound-is m q .plan .settings-size); enough = s }
 
       -- the number itself
       number-is : conditionedUnder (planOf m) ds (some (rulePlaced m k)) ≡ read (conditionedDigits settings ds cas prefix)

@@ -3,22 +3,22 @@ use Prim.Native.Nat.{_-_, _≤_}
 use mathlib.Core.Path.{_≡_, _∙_}
 use native.Mathlib.Omega.{arith}
 use lib.ListN.{length}
-use Rattle.formatting.specs.Sources.{valueIn}
-use Rattle.formatting.proofs.Joining.{outgoing-is, Joining, joining-none, joined, joined-long, joining-more}
+use Rattle.formatting.specs.Tables.{placedValue}
+use Rattle.formatting.proofs.Joining.{Joining, joining-none, joined, joined-long, joining-more}
 use borrow.Author.Needs.{needs}
-use Rattle.formatting.proofs.join_values.Statement.{statement}
-use Rattle.formatting.proofs.join_values.Tie as tie
+use Rattle.formatting.proofs.join_placed.Statement.{statement}
+use Rattle.formatting.proofs.join_placed.Tie as tie
 
 abbrev Inv-loop : tie.InvT-loop
-Inv-loop source n cas prefix served fas most out₀ end₀ i₀ out end i =
-    (i ≤ length fas) × (end ≤ most) × (length out ≡ length out₀) × Joining (valueIn source n cas prefix served) fas i end out
+Inv-loop source starts counts served fas most out₀ end₀ i₀ out end i =
+    (i ≤ length fas) × (end ≤ most) × (length out ≡ length out₀) × Joining (placedValue source starts counts served) fas i end out
 
 abbrev μ-loop : tie.MeasureT-loop
-μ-loop source n cas prefix served fas most out₀ end₀ i₀ out end i = length fas - i
+μ-loop source starts counts served fas most out₀ end₀ i₀ out end i = length fas - i
 
 loop-holds : tie.Need-loop-holds Inv-loop μ-loop
 loop-holds c =
-    let a = c .before .before .before .before .args in
+    let a = c .before .before .before .before .before .args in
     (search needs, search needs, search needs, joining-none _ (a .fas .now) (a .out .now))
 
 code-at-requires : tie.Need-code-at-requires Inv-loop μ-loop
@@ -29,8 +29,8 @@ same-length c = search needs
 
 returns : tie.Need-returns Inv-loop μ-loop
 returns c =
-    let a = c .before .before .before .before .before .before .before .args in
-    rw outgoing-is (joined (c .before .before .loop .inv .3) (a .most) (c .before .code-at .ensures .ends (c .if1 .taken)) (c .before .before .loop .inv .1))
+    let a = c .before .before .before .before .before .before .before .before .args in
+    joined (c .before .before .loop .inv .3) (a .most) (c .before .code-at .ensures .ends (c .if1 .taken)) (c .before .before .loop .inv .1)
 
 value-to-send-requires : tie.Need-value-to-send-requires Inv-loop μ-loop
 value-to-send-requires c κs = search needs
@@ -46,9 +46,8 @@ same-length-2 c = search needs
 
 returns-2 : tie.Need-returns-2 Inv-loop μ-loop
 returns-2 c =
-    let a = c .before .before .before .before .before .before .before .before .before .args in
+    let a = c .before .before .before .before .before .before .before .before .before .before .args in
     let v = c .before .value-to-send .ensures in
-    rw outgoing-is
     (joined-long (c .before .before .before .before .loop .inv .3) (a .most) (c .before .before .before .code-at .ensures .goes (c .before .before .if1 .left)) _ (v .count) (c .if2 .taken) _)
 
 sub-put-value : tie.Need-sub-put-value Inv-loop μ-loop
@@ -74,7 +73,7 @@ loop-less c = omega (arith, c .before .before .before .before .before .before .b
 
 loop-again : tie.Need-loop-again Inv-loop μ-loop
 loop-again c =
-    let g = c .before .before .before .before .before .before .before .before .before .before .before .before .before in
+    let g = c .before .before .before .before .before .before .before .before .before .before .before .before .before .before in
     let l = c .before .before .before .before .before .before .before .before .loop in
     let r = c .before .before .before .before .before .before .before .code-at .ensures in
     let n = c .before .before .before .before .before .before .if1 .left in
@@ -83,8 +82,8 @@ loop-again c =
     let j = joining-more (l .inv .3) (g .args .most) (r .goes n) _ (v .count) _ (omega (arith, l .inv .2, fits, g .pre .2)) (search needs) (c .before .before .put-value .ensures ∙ v .is) in
     (r .inside n, fits, search needs, j)
 
-pub join-values-spec : {M : Type 1} → statement M
-join-values-spec =
+pub join-placed-spec : {M : Type 1} → statement M
+join-placed-spec =
     tie.close
     (tie.spec
     Inv-loop

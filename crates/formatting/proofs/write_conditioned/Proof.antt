@@ -1,49 +1,104 @@
--- The number has 35 digits or fewer, and these are copied.
+-- At `end` the values before place i are written and the rest is as it was (`JoiningOver`); each step gets the part from there on.
+use Prim.Native.Nat.{_-_, _≤_}
+use mathlib.Core.Path.{_≡_}
 use native.Mathlib.Omega.{arith}
-use lib.ListN.{length-take}
-use Rattle.formatting.proofs.Joining.{joined-count, joined-copied}
+use lib.ListN.{length, length-take, length-drop}
+use Rattle.meaning.specs.Actions.{codesOf}
+use Rattle.meaning.specs.Services.{join}
+use Rattle.formatting.proofs.Conditioned.{valuesOf, conditioned-room, conditioned-writes, JoiningOver, over-none, over-all, over-room, over-more}
 use borrow.Author.Needs.{needs}
 use Rattle.formatting.proofs.write_conditioned.Statement.{statement}
 use Rattle.formatting.proofs.write_conditioned.Tie as tie
 
-slice-aggregate-join-conditioned : tie.Need-slice-aggregate-join-conditioned
-slice-aggregate-join-conditioned c = search needs
+abbrev Inv-loop : tie.InvT-loop
+Inv-loop settings digits cas prefix out₀ codes end₀ i₀ out end i =
+    (length codes ≡ 3) × (i ≤ 3) × (end ≤ length out₀) × (length out ≡ length out₀) × (length (join (valuesOf settings digits cas prefix) (codesOf codes)) ≤ length out₀)
+    × JoiningOver (valuesOf settings digits cas prefix) codes out₀ i end out
 
-join-conditioned-requires : tie.Need-join-conditioned-requires
-join-conditioned-requires c κs = search needs
+abbrev μ-loop : tie.MeasureT-loop
+μ-loop settings digits cas prefix out₀ codes end₀ i₀ out end i = 3 - i
 
-sub-copy : tie.Need-sub-copy
-sub-copy c = search needs
+conditioned-codes-requires : tie.Need-conditioned-codes-requires Inv-loop μ-loop
+conditioned-codes-requires c κs = search needs
 
-part-copy-start : tie.Need-part-copy-start
-part-copy-start c = search needs
+loop-holds : tie.Need-loop-holds Inv-loop μ-loop
+loop-holds c =
+    let g = c .before .before .before .before .before in
+    let a = g .args in
+    (search needs, search needs, search needs, search needs, conditioned-room (a .settings .now) (a .digits .now) (a .cas .now) (a .prefix) (c .conditioned-codes .result) (c .conditioned-codes .ensures) (g .pre .1), over-none _ _ (a .out .now))
 
-part-copy-end : tie.Need-part-copy-end
-part-copy-end c = let j = c .before .before .before .join-conditioned .ensures in omega (arith, joined-count j (c .before .before .before .before .before .before .before .before .before .pre .1), c .before .before .before .before .before .before .before .before .before .pre .1)
+slice-aggregate-code-at : tie.Need-slice-aggregate-code-at Inv-loop μ-loop
+slice-aggregate-code-at c = search needs
 
-copy-requires : tie.Need-copy-requires
-copy-requires c κs =
-    let g = c .before .before .before .before .before .before .before .before .before .before in
-    let j = c .before .before .before .before .join-conditioned .ensures in
-    rw length-take (omega (arith, joined-count j (g .pre .1), g .pre .1, g .pre .2))
+code-at-requires : tie.Need-code-at-requires Inv-loop μ-loop
+code-at-requires c κs = search needs
 
-same-length : tie.Need-same-length
+same-length : tie.Need-same-length Inv-loop μ-loop
 same-length c = search needs
 
-returns : tie.Need-returns
+returns : tie.Need-returns Inv-loop μ-loop
 returns c =
-    let g = c .before .before .before .before .before .before .before .before .before .before .before .before .before in
-    joined-copied (c .before .before .before .before .before .before .before .join-conditioned .ensures) (g .pre .1) (g .args .out .now) _ (c .before .before .copy .ensures)
+    let a = c .before .before .before .before .before .before .before .before .before .args in
+    let codes = c .before .before .before .before .conditioned-codes in
+    conditioned-writes (a .settings .now) (a .digits .now) (a .cas .now) (a .prefix) (codes .result) (codes .ensures)
+    (over-all (c .before .before .before .loop .inv .5) (c .before .code-at .ensures .ends (c .if1 .taken)))
+
+conditioned-part-requires : tie.Need-conditioned-part-requires Inv-loop μ-loop
+conditioned-part-requires c κs = search needs
+
+sub-copy : tie.Need-sub-copy Inv-loop μ-loop
+sub-copy c = search needs
+
+part-copy-start : tie.Need-part-copy-start Inv-loop μ-loop
+part-copy-start c = search needs
+
+part-copy-end : tie.Need-part-copy-end Inv-loop μ-loop
+part-copy-end c = search needs
+
+copy-requires : tie.Need-copy-requires Inv-loop μ-loop
+copy-requires c κs =
+    let l = c .before .before .before .before .before .loop in
+    let room = over-room (l .inv .5) (c .before .before .before .code-at .ensures .goes (c .before .before .if1 .left)) _ (c .before .conditioned-part .ensures) (l .inv .4) in
+    simp (length-take, length-drop) (omega arith)
+
+add-end : tie.Need-add-end Inv-loop μ-loop
+add-end c =
+    let l = c .before .before .before .before .before .before .before .before .loop in
+    let goes = c .before .before .before .before .before .before .code-at .ensures .goes (c .before .before .before .before .before .if1 .left) in
+    omega (arith, over-room (l .inv .5) goes _ (c .before .before .before .before .conditioned-part .ensures) (l .inv .4))
+
+add-i : tie.Need-add-i Inv-loop μ-loop
+add-i c = search needs
+
+loop-less : tie.Need-loop-less Inv-loop μ-loop
+loop-less c = omega (arith, c .before .before .before .before .before .before .before .before .loop .inv .0, c .before .before .before .before .before .before .code-at .ensures .inside (c .before .before .before .before .before .if1 .left))
+
+loop-again : tie.Need-loop-again Inv-loop μ-loop
+loop-again c =
+    let l = c .before .before .before .before .before .before .before .before .loop in
+    let r = c .before .before .before .before .before .before .code-at .ensures in
+    let n = c .before .before .before .before .before .if1 .left in
+    let g = over-more (l .inv .5) (r .goes n) _ (c .before .before .before .before .conditioned-part .ensures) (l .inv .4) _ (c .before .before .copy .ensures) in
+    (l .inv .0, omega (arith, l .inv .0, r .inside n), g .inside, g .long, l .inv .4, g)
 
 pub write-conditioned-spec : {M : Type 1} → statement M
 write-conditioned-spec =
     tie.close
     (tie.spec
-    slice-aggregate-join-conditioned
-    join-conditioned-requires
+    Inv-loop
+    μ-loop
+    conditioned-codes-requires
+    loop-holds
+    slice-aggregate-code-at
+    code-at-requires
+    same-length
+    returns
+    conditioned-part-requires
     sub-copy
     part-copy-start
     part-copy-end
     copy-requires
-    same-length
-    returns)
+    add-end
+    add-i
+    loop-less
+    loop-again)

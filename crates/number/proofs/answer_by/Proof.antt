@@ -2,7 +2,7 @@
 use mathlib.Core.Path.{refl, sym, _∙_}
 use lib.ListN.{getD}
 use Rattle.number.specs.Answering.{lookupOfBody, digitsOfBody}
-use Rattle.number.proofs.Answering.{digits-long, holds-unserved, holds-refused, given-escaped, given-short, holds-served, serviceable, finishable}
+use Rattle.number.proofs.Answering.{digits-long, holds-unserved, holds-refused, given-escaped, given-short, holds-served, serviceable, formattable}
 use borrow.Author.Needs.{needs}
 use Rattle.number.proofs.answer_by.Statement.{statement}
 use Rattle.number.proofs.answer_by.Tie as tie
@@ -66,7 +66,7 @@ fas-of-requires c κs = search needs
 finish-requires : tie.Need-finish-requires
 finish-requires c κs =
     let b = c .before .before .before .before .before .before .before .before .before .before .before .before .before .before .before .before .before in
-    finishable (b .args .settings .now) (b .args .body .now) (b .args .n) (b .args .content .now) (b .args .out .now) (b .pre) _ (b .args .prefix) (sym (c .before .before .before .before .before .before .is-short .ensures) ∙ c .before .before .before .before .before .if2 .left)
+    (formattable (b .args .settings .now) (b .args .body .now) (b .args .n) (b .args .content .now) (b .args .out .now) (b .pre) _ (b .args .prefix) (sym (c .before .before .before .before .before .before .is-short .ensures) ∙ c .before .before .before .before .before .if2 .left), b .pre .room)
 
 same-length : tie.Need-same-length
 same-length c = search needs

@@ -1,5 +1,6 @@
 -- Each answer is the read that its check stands for; the number has at most 35 digits, so that the buffer is enough.
 use mathlib.Core.Path.{sym, _∙_}
+use native.Mathlib.Omega.{arith}
 use Rattle.plan.proofs.ReadLaws.{numbers}
 use Rattle.reads.proofs.NumberReads.{number-unconditioned, number-short, number-conditionable, number-few, number-given}
 use borrow.Author.Needs.{needs}
@@ -44,9 +45,8 @@ write-conditioned-requires c κs =
     let few = number-few (g .args .plan .now) (g .args .place .0) (g .args .digits .now) (g .args .out .now) _ _ (c .before .before .before .before .before .before .before .before .content-at .ensures) (c .before .before .before .before .before .before .before .cas-of .ensures)
     _ (sym (c .before .before .before .before .before .before .no-conditioning .ensures) ∙ c .before .before .before .before .before .if1 .left) (c .before .before .before .before .prefix-at .ensures) _ (c .before .settings .ensures) (sym (c .before .before .before .is-short .ensures) ∙ c .before .before .if2 .left) (g .pre .0) in (
       number-conditionable (g .args .plan .now) (g .args .place .0) (g .args .digits .now) (g .args .out .now) _ _ (c .before .before .before .before .before .before .before .before .content-at .ensures) (c .before .before .before .before .before .before .before .cas-of .ensures)
-          _ (sym (c .before .before .before .before .before .before .no-conditioning .ensures) ∙ c .before .before .before .before .before .if1 .left) (c .before .before .before .before .prefix-at .ensures) _ (c .before .settings .ensures) (sym (c .before .before .before .is-short .ensures) ∙ c .before .before .if2 .left) (g .pre .0),
-      few,
-      g .pre .1,
+          _ (sym (c .before .before .before .before .before .before .no-conditioning .ensures) ∙ c .before .before .before .before .before .if1 .left) (c .before .before .before .before .prefix-at .ensures) _ (c .before .settings .ensures) (sym (c .before .before .before .is-short .ensures) ∙ c .before .before .if2 .left) (g .pre .0 .is-sound),
+      omega (arith, few, g .pre .1),
     )
 
 same-length : tie.Need-same-length

@@ -1,0 +1,114 @@
+-- The conditioned number: the parts that its values are, and how a loop over its codes goes on.
+use Prim.Native.Nat.{ℕ, _+_, _-_, _≤_}
+use mathlib.Core.Path.{_≡_, refl, sym, ap, _∙_}
+use mathlib.Core.Bool.{Bool, true, false}
+use mathlib.Core.List.{List, [], _∷_, _++_, append-assoc, append-nil}
+use native.Mathlib.Nat.{sub-zero}
+use native.Mathlib.Omega.{arith}
+use lib.ListN.{length, take, drop, getD, length-append, length-drop, take-append-drop}
+use lib.Seq.{take-all, take-at, drop-at, length-take-le, drop-drop, drop-length}
+use borrow.Rule.Slice.PartMut.{putMid, midOf, post-is}
+use Rattle.meaning.specs.Basics.{if_then_else_, part}
+use Rattle.meaning.specs.Settings.{settingsOf}
+use Rattle.meaning.specs.Actions.{DN, ZN, CA, casOf, codesOf}
+use Rattle.meaning.specs.Groups.{isSet}
+use Rattle.meaning.specs.Conditioning.{short, stretchOf, digitsAt, valueFrom, conditionedFrom}
+use Rattle.meaning.specs.Services.{join}
+use Rattle.conditioning.specs.Spans.{stretchIn}
+use Rattle.formatting.specs.Joins.{conditioned, conditionedCodes, Writes}
+
+-- THE PARTS
+
+-- the default country code
+country-is : (settings : List ℕ) → settingsOf settings .country ≡ take (getD settings 0 0) (part 1 3 settings)
+unfolding settingsOf
+country-is [] = refl
+country-is (n ∷ ds) = refl
+
+-- its length byte n is within the width, or not
+module _ (settings : List ℕ) (n : ℕ) (n-is : n ≡ getD settings 0 0) where
+  pub country-some : take (n - 0) (part 1 3 settings) ≡ settingsOf settings .country
+  country-some = rw (sub-zero, n-is) (sym (country-is settings))
+
+  pub country-full : length (part 1 3 settings) ≤ n → part 1 3 settings ≡ settingsOf settings .country
+  country-full h = sym (country-is settings ∙ take-all (getD settings 0 0) (part 1 3 settings) (rw n-is at h))
+
+-- where the digits are enough, no stretch is empty for SHORT
+pub stretch-enough : (v prefix : ℕ) (xs : List CA) (digits : List ℕ) → short prefix (length digits) xs ≡ false
+    → digitsAt (stretchIn v prefix (length digits) xs) digits ≡ digitsAt (stretchOf v prefix (length digits) xs) digits
+stretch-enough v prefix xs digits e = rw e
+
+-- WHICH VALUES
+
+abbrev pub valuesOf : List ℕ → List ℕ → List ℕ → ℕ → ℕ → List ℕ
+valuesOf settings digits cas prefix v = valueFrom (settingsOf settings .country) prefix digits (casOf cas) v
+
+conditioned-by : (xs : List CA) (value : ℕ → List ℕ) → join value (conditionedCodes xs) ≡ conditionedFrom xs value
+unfolding conditionedCodes conditionedFrom
+conditioned-by xs value = go (isSet ZN xs) (isSet DN xs)
+  where
+    go : (z d : Bool) → join value (if z then (5 ∷ []) else if d then (1 ∷ 4 ∷ []) else (1 ∷ 2 ∷ 3 ∷ []))
+        ≡ (if z then value 5 else if d then value 1 ++ value 4 else value 1 ++ (value 2 ++ value 3))
+    go true d = append-nil (value 5)
+    go false true = rw append-nil
+    go false false = rw append-nil
+
+module _ (settings digits cas : List ℕ) (prefix : ℕ) (codes : List ℕ) (e : codesOf codes ≡ conditionedCodes (casOf cas)) where
+  conditioned-is : join (valuesOf settings digits cas prefix) (codesOf codes) ≡ conditioned settings digits cas prefix
+  unfolding conditioned
+  conditioned-is = rw e (conditioned-by (casOf cas) (valuesOf settings digits cas prefix))
+
+  pub conditioned-room : {n : ℕ} → length (conditioned settings digits cas prefix) ≤ n → length (join (valuesOf settings digits cas prefix) (codesOf codes)) ≤ n
+  conditioned-room h = rw conditioned-is h
+
+  pub conditioned-writes : {old out : List ℕ} {r : ℕ} → Writes (join (valuesOf settings digits cas prefix) (codesOf codes)) old out r
+      → Writes (conditioned settings digits cas prefix) old out r
+  conditioned-writes w = rw conditioned-is at w
+
+-- HOW A LOOP OVER THE CODES GOES ON
+
+-- at `end`, the values before place i are written, and the bytes behind them are as they were
+pub record JoiningOver (v : ℕ → List ℕ) (codes old : List ℕ) (i end : ℕ) (out : List ℕ) : Type 0 where
+  pub inside : end ≤ length old
+  pub long : length out ≡ length old
+  pub written : take end out ++ join v (codesOf (drop i codes)) ≡ join v (codesOf codes)
+  pub behind : drop end out ≡ drop end old
+
+pub over-none : (v : ℕ → List ℕ) (codes old : List ℕ) → JoiningOver v codes old 0 0 old
+over-none v codes old = record { inside = omega arith; long = refl; written = refl; behind = refl }
+
+module _ {v : ℕ → List ℕ} {codes old out : List ℕ} {i end : ℕ} (g : JoiningOver v codes old i end out) where
+  front-long : length (take end out) ≡ end
+  front-long = length-take-le end out (omega (arith, g .inside, g .long))
+
+  -- none is left
+  pub over-all : codesOf (drop i codes) ≡ [] → Writes (join v (codesOf codes)) old out end
+  over-all e =
+      let t : take end out ≡ join v (codesOf codes) = sym (append-nil (take end out)) ∙ (rw e at (g .written)) in
+      let l : length (join v (codesOf codes)) ≡ end = sym (ap length t) ∙ front-long in
+      record { written = sym (take-append-drop end out) ∙ rw (t, g .behind, l); count = sym l }
+
+  module _ {f : ℕ} (e : codesOf (drop i codes) ≡ f ∷ codesOf (drop (i + 1) codes)) (value : List ℕ) (is : value ≡ v f) (room : length (join v (codesOf codes)) ≤ length old) where
+    next : take end out ++ (value ++ join v (codesOf (drop (i + 1) codes))) ≡ join v (codesOf codes)
+    next = rw (e, ← is) at (g .written)
+
+    pub over-room : end + length value ≤ length out
+    over-room = omega (arith, simp (length-append, front-long) at (ap length next), g .long)
+
+    -- the value directly behind those before it
+    pub over-more : (last : List ℕ) → last ≡ value ++ drop (length value) (midOf end (length out - end) out)
+        → JoiningOver v codes old (i + 1) (end + length value) (putMid end (length out - end) out last)
+    over-more last w =
+        let h : end + length value ≤ length out = over-room in
+        let p : List ℕ = take end out ++ value in
+        let k : length p ≡ end + length value = length-append (take end out) value ∙ rw front-long in
+        let l : length (drop end out) ≡ length out - end = length-drop end out in
+        let m : take (length out - end) (drop end out) ≡ drop end out = take-all (length out - end) (drop end out) (omega arith) in
+        let z : drop (length out - end) (drop end out) ≡ [] = post-is end (length out) out (omega arith) ∙ drop-length out in
+        let s : putMid end (length out - end) out last ≡ p ++ drop (end + length value) out = rw (z, append-nil, w, m, drop-drop, append-assoc) in
+        record {
+          inside = omega (arith, g .long);
+          long = rw s (omega (arith, length-append p (drop (end + length value) out), length-drop (end + length value) out, g .long));
+          written = rw (s, take-at p (drop (end + length value) out) (end + length value) k, append-assoc) next;
+          behind = rw (s, drop-at p (drop (end + length value) out) (end + length value) k, ← drop-drop (length value) end out, g .behind) (drop-drop (length value) end old);
+        }
