@@ -1,6 +1,6 @@
 -- Lists of bytes: their parts, unused ones, and a two-byte number, whose bytes are found again since they are bytes.
-use Prim.Native.Nat.{ℕ, zero, suc, _+_, _*_, _/_, _%_, _≤_, _<_}
-use mathlib.Core.Path.{_≡_, ap, sym, _∙_}
+use Prim.Native.Nat.{ℕ, zero, suc, _+_, _-_, _*_, _/_, _%_, _≤_, _<_}
+use mathlib.Core.Path.{_≡_, ap, ap₂, sym, _∙_}
 use mathlib.Core.List.{List, [], _∷_, _++_}
 use native.Mathlib.Omega.{arith}
 use native.Mathlib.Nat.{div-add-mod', mod-lt}
@@ -36,6 +36,15 @@ word-again b at inside h =
     let high : n / 256 ≡ getD b at 0 = omega arith in
     let low : n % 256 ≡ getD b (at + 1) 0 = omega arith in
     rw (high, low) (sym (next-two b at inside))
+
+-- a part is lent by its two ends
+part-lent : (a n : ℕ) (m : List ℕ) → take (a + n - a) (drop a m) ≡ part a n m
+part-lent a n m = let e : a + n - a ≡ n = omega arith in rw e
+
+-- what a call answers of two parts that are lent
+pub of-parts : {B : Type 0} (f : List ℕ → List ℕ → B) (a n b k : ℕ) (m : List ℕ) {r : B}
+    → r ≡ f (take (a + n - a) (drop a m)) (take (b + k - b) (drop b m)) → r ≡ f (part a n m) (part b k m)
+of-parts f a n b k m e = e ∙ ap₂ f (part-lent a n m) (part-lent b k m)
 
 -- a part of unused bytes
 pub part-zeros : (a n : ℕ) (m : List ℕ) → a + n ≤ length m → T (all isZero (part a n m)) → part a n m ≡ zeros n

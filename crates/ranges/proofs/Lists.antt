@@ -30,3 +30,7 @@ module _ (b : List ℕ) (i : ℕ) where
   -- a part that is lent to its end is what is left from its start on
   pub rest-is : take (length b - i) (drop i b) ≡ drop i b
   rest-is = let h : length (drop i b) ≤ length b - i = rw length-drop (omega arith) in take-all (length b - i) (drop i b) h
+
+  -- what a call answers of a part that is lent to its end
+  pub of-rest : {B : Type 0} (f : List ℕ → B) {r : B} → r ≡ f (take (length b - i) (drop i b)) → r ≡ f (drop i b)
+  of-rest f e = e ∙ ap f rest-is

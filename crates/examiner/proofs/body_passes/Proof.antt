@@ -1,8 +1,10 @@
 -- The areas are the parts that were lent.
-use Prim.Native.Nat.{_+_, _-_, _*_}
-use mathlib.Core.Path.{_≡_, _∙_}
-use native.Mathlib.Omega.{arith}
+use Prim.Native.Nat.{ℕ, _+_, _*_}
+use mathlib.Core.Bool.{Bool}
+use mathlib.Core.List.{List}
 use borrow.Author.Needs.{needs}
+use Rattle.examiner.specs.Examined.{areasPass}
+use Rattle.examiner.proofs.Bytes.{of-parts}
 use Rattle.examiner.proofs.body_passes.Statement.{statement}
 use Rattle.examiner.proofs.body_passes.Tie as tie
 
@@ -42,9 +44,8 @@ areas-pass-requires c κs = search needs
 returns : tie.Need-returns
 returns c =
     let a = c .before .before .before .before .args in
-    let n : 64 + 48 * a .room - 64 ≡ 48 * a .room = omega arith in
-    let k : 64 + 48 * a .room + 24 * a .rules - (64 + 48 * a .room) ≡ 24 * a .rules = omega arith in
-    c .areas-pass .ensures ∙ rw (n, k)
+    let areas : List ℕ → List ℕ → Bool = λ sets rules. areasPass (a .room) sets (a .count) rules in
+    of-parts areas 64 (48 * a .room) (64 + 48 * a .room) (24 * a .rules) (a .memory .now) (c .areas-pass .ensures)
 
 pub body-passes-spec : {M : Type 1} → statement M
 body-passes-spec =

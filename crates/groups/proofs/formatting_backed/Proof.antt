@@ -2,6 +2,7 @@
 use Prim.Native.Nat.{_-_, _≤_}
 use native.Mathlib.Omega.{arith}
 use mathlib.Core.Path.{_≡_, sym, _∙_}
+use mathlib.Core.Bool.{true, false}
 use lib.ListN.{length, drop}
 use borrow.Author.Needs.{needs}
 use borrow.Author.Tests.{not-true, not-false}
@@ -41,9 +42,11 @@ returns-2 : tie.Need-returns-2 Inv-loop μ-loop
 unfolding formattingBacked actionsOf
 returns-2 c =
     let l = c .before .before .before .before in
-    let read = c .before .before .before .code-at .ensures in
-    let s = step (all (isBacked (actionsOf (l .before .before .before .args .content .now)))) read (c .before .before .if1 .left) (l .loop .inv .1) in
-    rw (l .before .fas-of .ensures) at (rw (sym (c .before .is-backed .ensures) ∙ not-true _ (c .if2 .taken)) at (s .1))
+    let read = c .before .before .before .code-at in
+    let backed = isBacked (actionsOf (l .before .before .before .args .content .now)) in
+    let lacks : backed (read .result) ≡ false = sym (c .before .is-backed .ensures) ∙ not-true _ (c .if2 .taken) in
+    let s = step (all backed) (read .ensures) (c .before .before .if1 .left) (l .loop .inv .1) in
+    rw (l .before .fas-of .ensures) at (rw lacks at (s .1))
 
 add-i : tie.Need-add-i Inv-loop μ-loop
 add-i c = omega (arith, c .before .before .before .code-at .ensures .inside (c .before .before .if1 .left))
@@ -54,9 +57,11 @@ loop-less c = omega (arith, c .before .before .before .code-at .ensures .inside 
 loop-again : tie.Need-loop-again Inv-loop μ-loop
 loop-again c =
     let l = c .before .before .before .before in
-    let read = c .before .before .before .code-at .ensures in
-    let s = step (all (isBacked (actionsOf (l .before .before .before .args .content .now)))) read (c .before .before .if1 .left) (l .loop .inv .1) in
-    (s .0, rw (sym (c .before .is-backed .ensures) ∙ not-false _ (c .if2 .left)) at (s .1))
+    let read = c .before .before .before .code-at in
+    let backed = isBacked (actionsOf (l .before .before .before .args .content .now)) in
+    let has : backed (read .result) ≡ true = sym (c .before .is-backed .ensures) ∙ not-false _ (c .if2 .left) in
+    let s = step (all backed) (read .ensures) (c .before .before .if1 .left) (l .loop .inv .1) in
+    (s .0, rw has at (s .1))
 
 pub formatting-backed-spec : {M : Type 1} → statement M
 formatting-backed-spec =

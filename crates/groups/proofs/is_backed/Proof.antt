@@ -1,8 +1,12 @@
--- The tests are the definition's, and each part is the one that its function gives.
+-- Each code is asked for the action that it needs, in the part that its function gives.
+use Prim.Native.Nat.{_≤_, _<_}
+use mathlib.Core.Path.{_≡_, sym, _∙_}
+use native.Mathlib.Omega.{arith}
 use borrow.Author.Needs.{needs}
-use borrow.Author.Tests.{le-leb, lt-leb, eq-eqb, ne-eqb}
-use Rattle.meaning.specs.Actions.{actionsOf}
-use Rattle.meaning.specs.Groups.{isBacked}
+use Rattle.meaning.specs.Basics.{contains}
+use Rattle.meaning.specs.Actions.{SP, GRN, CDPNNP, ASDLKUP, GRNLKUP, actionsOf}
+use Rattle.meaning.specs.Groups.{isSet}
+use Rattle.groups.proofs.Backed.{value-backed, sp-backed, asd-backed, grn-backed, delimiter-backed}
 use Rattle.groups.proofs.is_backed.Statement.{statement}
 use Rattle.groups.proofs.is_backed.Tie as tie
 
@@ -13,8 +17,12 @@ is-set-requires : tie.Need-is-set-requires
 is-set-requires c κs = search needs
 
 returns : tie.Need-returns
-unfolding isBacked actionsOf
-returns c = rw (le-leb _ _ (c .before .before .if1 .taken)) (rw (c .before .cas-of .ensures) at (c .is-set .ensures))
+unfolding actionsOf
+returns c =
+    let args = c .before .before .before .before .args in
+    let set = actionsOf (args .content .now) in
+    let asked : c .is-set .result ≡ isSet (args .f) (set .cas) = rw (c .before .cas-of .ensures) at (c .is-set .ensures) in
+    asked ∙ sym (value-backed set (args .f) (c .before .before .if1 .taken))
 
 sas-of-requires : tie.Need-sas-of-requires
 sas-of-requires c κs = search needs
@@ -23,9 +31,13 @@ contains-requires : tie.Need-contains-requires
 contains-requires c κs = search needs
 
 returns-2 : tie.Need-returns-2
-unfolding isBacked actionsOf
+unfolding actionsOf
 returns-2 c =
-    rw (lt-leb _ _ (c .before .before .before .if1 .left), le-leb _ _ (c .before .before .if2 .taken)) (rw (c .before .sas-of .ensures) at (c .contains .ensures))
+    let args = c .before .before .before .before .before .args in
+    let set = actionsOf (args .content .now) in
+    let asked : c .contains .result ≡ contains CDPNNP (set .sas) = rw (c .before .sas-of .ensures) at (c .contains .ensures) in
+    let up-to-sp : args .f ≤ SP = omega arith in
+    asked ∙ sym (sp-backed set (args .f) (c .before .before .before .if1 .left) up-to-sp)
 
 sas-of-requires-2 : tie.Need-sas-of-requires-2
 sas-of-requires-2 c κs = search needs
@@ -34,10 +46,12 @@ contains-requires-2 : tie.Need-contains-requires-2
 contains-requires-2 c κs = search needs
 
 returns-3 : tie.Need-returns-3
-unfolding isBacked actionsOf
+unfolding actionsOf
 returns-3 c =
-    rw (lt-leb _ _ (c .before .before .before .before .if1 .left), lt-leb _ _ (c .before .before .before .if2 .left), eq-eqb _ _ (c .before .before .if3 .taken))
-    (rw (c .before .sas-of2 .ensures) at (c .contains2 .ensures))
+    let args = c .before .before .before .before .before .before .args in
+    let set = actionsOf (args .content .now) in
+    let asked : c .contains2 .result ≡ contains ASDLKUP (set .sas) = rw (c .before .sas-of2 .ensures) at (c .contains2 .ensures) in
+    asked ∙ sym (asd-backed set (args .f) (c .before .before .if3 .taken))
 
 sas-of-requires-3 : tie.Need-sas-of-requires-3
 sas-of-requires-3 c κs = search needs
@@ -46,25 +60,18 @@ contains-requires-3 : tie.Need-contains-requires-3
 contains-requires-3 c κs = search needs
 
 returns-4 : tie.Need-returns-4
-unfolding isBacked actionsOf
+unfolding actionsOf
 returns-4 c =
-    let e = rw (c .before .sas-of3 .ensures) at (c .contains3 .ensures) in
-    rw (
-      lt-leb _ _ (c .before .before .before .before .before .if1 .left),
-      lt-leb _ _ (c .before .before .before .before .if2 .left),
-      ne-eqb _ _ (c .before .before .before .if3 .left),
-      eq-eqb _ _ (c .before .before .if4 .taken),
-    ) e
+    let args = c .before .before .before .before .before .before .before .args in
+    let set = actionsOf (args .content .now) in
+    let asked : c .contains3 .result ≡ contains GRNLKUP (set .sas) = rw (c .before .sas-of3 .ensures) at (c .contains3 .ensures) in
+    asked ∙ sym (grn-backed set (args .f) (c .before .before .if4 .taken))
 
 returns-5 : tie.Need-returns-5
-unfolding isBacked actionsOf
 returns-5 c =
-    rw (
-      lt-leb _ _ (c .before .before .before .if1 .left),
-      lt-leb _ _ (c .before .before .if2 .left),
-      ne-eqb _ _ (c .before .if3 .left),
-      ne-eqb _ _ (c .if4 .left),
-    )
+    let args = c .before .before .before .before .before .args in
+    let delimiter : GRN < args .f = omega arith in
+    sym (delimiter-backed (actionsOf (args .content .now)) (args .f) delimiter)
 
 pub is-backed-spec : {M : Type 1} → statement M
 is-backed-spec =

@@ -2,8 +2,10 @@
 use Prim.Native.Nat.{_+_, _-_, _≤_}
 use native.Mathlib.Omega.{arith}
 use mathlib.Core.Path.{_≡_, sym, _∙_}
+use mathlib.Core.Bool.{true, false}
 use lib.ListN.{length, drop}
 use borrow.Author.Needs.{needs}
+use Rattle.meaning.specs.Basics.{contains}
 use Rattle.meaning.specs.Actions.{codesOf}
 use Rattle.meaning.specs.Groups.{noServiceRepeats}
 use Rattle.ranges.proofs.Lists.{rest-is}
@@ -46,10 +48,12 @@ contains-requires c κs = search needs
 returns-2 : tie.Need-returns-2 Inv-loop μ-loop
 returns-2 c =
     let l = c .before .before .before .before .before in
-    let read = c .before .before .before .before .code-at .ensures in
-    let s = step noServiceRepeats read (c .before .before .before .if1 .left) (l .loop .inv .1) in
-    let e = rw (rest-is (l .before .before .args .sas .now) (l .loop .i + 1)) at (c .before .contains .ensures) in
-    rw (sym e ∙ c .if2 .taken) at (s .1)
+    let read = c .before .before .before .before .code-at in
+    let sas = l .before .before .args .sas .now in
+    let e = rw (rest-is sas (l .loop .i + 1)) at (c .before .contains .ensures) in
+    let again : contains (read .result) (codesOf (drop (l .loop .i + 1) sas)) ≡ true = sym e ∙ c .if2 .taken in
+    let s = step noServiceRepeats (read .ensures) (c .before .before .before .if1 .left) (l .loop .inv .1) in
+    rw again at (s .1)
 
 loop-less : tie.Need-loop-less Inv-loop μ-loop
 loop-less c = omega (arith, c .before .before .before .before .code-at .ensures .inside (c .before .before .before .if1 .left))
@@ -57,10 +61,12 @@ loop-less c = omega (arith, c .before .before .before .before .code-at .ensures 
 loop-again : tie.Need-loop-again Inv-loop μ-loop
 loop-again c =
     let l = c .before .before .before .before .before in
-    let read = c .before .before .before .before .code-at .ensures in
-    let s = step noServiceRepeats read (c .before .before .before .if1 .left) (l .loop .inv .1) in
-    let e = rw (rest-is (l .before .before .args .sas .now) (l .loop .i + 1)) at (c .before .contains .ensures) in
-    (s .0, rw (sym e ∙ c .if2 .left) at (s .1))
+    let read = c .before .before .before .before .code-at in
+    let sas = l .before .before .args .sas .now in
+    let e = rw (rest-is sas (l .loop .i + 1)) at (c .before .contains .ensures) in
+    let once : contains (read .result) (codesOf (drop (l .loop .i + 1) sas)) ≡ false = sym e ∙ c .if2 .left in
+    let s = step noServiceRepeats (read .ensures) (c .before .before .before .if1 .left) (l .loop .inv .1) in
+    (s .0, rw once at (s .1))
 
 pub no-service-repeats-spec : {M : Type 1} → statement M
 no-service-repeats-spec =

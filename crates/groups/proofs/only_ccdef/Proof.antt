@@ -2,11 +2,13 @@
 use Prim.Native.Nat.{_-_, _≤_}
 use native.Mathlib.Omega.{arith}
 use mathlib.Core.Path.{_≡_}
+use mathlib.Core.Bool.{true, false}
 use lib.ListN.{length, drop}
 use borrow.Author.Needs.{needs}
 use borrow.Author.Tests.{eq-eqb, ne-eqb}
 use Rattle.meaning.specs.Basics.{all}
 use Rattle.meaning.specs.Actions.{isCCDEF, casOf}
+use Rattle.actions.specs.Reading.{actionOf}
 use Rattle.actions.proofs.Reading.{stop, step}
 use Rattle.groups.proofs.only_ccdef.Statement.{statement}
 use Rattle.groups.proofs.only_ccdef.Tie as tie
@@ -31,9 +33,10 @@ returns c =
 returns-2 : tie.Need-returns-2 Inv-loop μ-loop
 returns-2 c =
     let l = c .before .before .before .before .before in
-    let read = c .before .before .before .before .action-at .ensures in
-    let s = step (all isCCDEF) read (c .before .before .if1 .left) (l .loop .inv .1) in
-    rw (ne-eqb _ _ (c .if2 .taken)) at (s .1)
+    let read = c .before .before .before .before .action-at in
+    let other : isCCDEF (actionOf (read .result)) ≡ false = ne-eqb _ _ (c .if2 .taken) in
+    let s = step (all isCCDEF) (read .ensures) (c .before .before .if1 .left) (l .loop .inv .1) in
+    rw other at (s .1)
 
 add-i : tie.Need-add-i Inv-loop μ-loop
 add-i c = omega (arith, c .before .before .before .before .action-at .ensures .inside (c .before .before .if1 .left))
@@ -44,9 +47,10 @@ loop-less c = omega (arith, c .before .before .before .before .action-at .ensure
 loop-again : tie.Need-loop-again Inv-loop μ-loop
 loop-again c =
     let l = c .before .before .before .before .before in
-    let read = c .before .before .before .before .action-at .ensures in
-    let s = step (all isCCDEF) read (c .before .before .if1 .left) (l .loop .inv .1) in
-    (s .0, rw (eq-eqb _ _ (c .if2 .left)) at (s .1))
+    let read = c .before .before .before .before .action-at in
+    let ccdef : isCCDEF (actionOf (read .result)) ≡ true = eq-eqb _ _ (c .if2 .left) in
+    let s = step (all isCCDEF) (read .ensures) (c .before .before .if1 .left) (l .loop .inv .1) in
+    (s .0, rw ccdef at (s .1))
 
 pub only-ccdef-spec : {M : Type 1} → statement M
 only-ccdef-spec =

@@ -1,4 +1,5 @@
 -- The tests are the definition's.
+use Prim.Native.Nat.{_≤_}
 use borrow.Author.Needs.{needs}
 use borrow.Author.Tests.{le-leb}
 use Rattle.meaning.specs.Actions.{caInRange}
@@ -11,7 +12,9 @@ most-of-requires c κs = search needs
 
 returns : tie.Need-returns
 unfolding caInRange
-returns c = rw (le-leb _ _ (c .before .before .if1 .taken), le-leb _ _ (c .before .if2 .taken), ← c .most-of .ensures)
+returns c =
+    let least : 1 ≤ c .before .before .before .args .count = c .before .if2 .taken in
+    rw (le-leb _ _ (c .before .before .if1 .taken), le-leb _ _ least, ← c .most-of .ensures)
 
 returns-2 : tie.Need-returns-2
 unfolding caInRange

@@ -1,11 +1,13 @@
 -- What is left of the bytes decides: the loop ends behind them, at one byte alone, at code 0 or at the first action out of range.
 use Prim.Native.Nat.{_+_, _-_, _≤_}
 use mathlib.Core.Path.{_≡_, sym, _∙_}
-use lib.ListN.{length, drop}
+use mathlib.Core.Bool.{true, false}
+use lib.ListN.{length, drop, getD}
 use borrow.Author.Needs.{needs}
 use borrow.Author.Tests.{not-true, not-false, eq-eqb, ne-eqb}
+use Rattle.meaning.specs.Basics.{all, isZero}
 use Rattle.meaning.specs.Actions.{casInRange}
-use Rattle.ranges.proofs.Lists.{on, next-two, next-none, next-last, rest-is}
+use Rattle.ranges.proofs.Lists.{on, next-two, next-none, next-last, of-rest}
 use Rattle.ranges.proofs.cas_in_range.Statement.{statement}
 use Rattle.ranges.proofs.cas_in_range.Tie as tie
 
@@ -53,17 +55,18 @@ all-zero-requires c κs = search needs
 returns-2 : tie.Need-returns-2 Inv-loop μ-loop
 returns-2 c =
     let l = c .before .before .before .before .before .before .before .before in
-    let args = l .before .before .args in
-    let s = on casInRange (next-two (args .cas .now) (l .loop .i) (search needs)) (l .loop .inv .1) in
-    let z = rw (rest-is (args .cas .now) (l .loop .i + 2)) at (c .all-zero .ensures) in
-    z ∙ (rw (eq-eqb _ 0 (c .before .before .before .if2 .taken), eq-eqb _ 0 (c .before .before .if3 .taken)) at s)
+    let cas = l .before .before .args .cas .now in
+    let none : isZero (getD cas (l .loop .i + 1) 0) ≡ true = eq-eqb _ 0 (c .before .before .if3 .taken) in
+    let s = on casInRange (next-two cas (l .loop .i) (search needs)) (l .loop .inv .1) in
+    of-rest cas (l .loop .i + 2) (all isZero) (c .all-zero .ensures) ∙ (rw (eq-eqb _ 0 (c .before .before .before .if2 .taken), none) at s)
 
 returns-3 : tie.Need-returns-3 Inv-loop μ-loop
 returns-3 c =
     let l = c .before .before .before .before .before .before in
-    let s = on casInRange (next-two (l .before .before .args .cas .now) (l .loop .i) (search needs)) (l .loop .inv .1) in
-    let e = ne-eqb _ 0 (c .if3 .left) in
-    e ∙ (rw (eq-eqb _ 0 (c .before .if2 .taken), e) at s)
+    let cas = l .before .before .args .cas .now in
+    let some : isZero (getD cas (l .loop .i + 1) 0) ≡ false = ne-eqb _ 0 (c .if3 .left) in
+    let s = on casInRange (next-two cas (l .loop .i) (search needs)) (l .loop .inv .1) in
+    some ∙ (rw (eq-eqb _ 0 (c .before .if2 .taken), some) at s)
 
 ca-in-range-requires : tie.Need-ca-in-range-requires Inv-loop μ-loop
 ca-in-range-requires c κs = search needs

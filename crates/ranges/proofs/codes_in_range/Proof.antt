@@ -4,8 +4,9 @@ use mathlib.Core.Path.{_≡_, _∙_}
 use lib.ListN.{length, drop}
 use borrow.Author.Needs.{needs}
 use borrow.Author.Tests.{le-leb, lt-leb, eq-eqb, ne-eqb}
+use Rattle.meaning.specs.Basics.{all, isZero}
 use Rattle.meaning.specs.Actions.{codesInRange}
-use Rattle.ranges.proofs.Lists.{on, next-one, next-none, rest-is}
+use Rattle.ranges.proofs.Lists.{on, next-one, next-none, of-rest}
 use Rattle.ranges.proofs.codes_in_range.Statement.{statement}
 use Rattle.ranges.proofs.codes_in_range.Tie as tie
 
@@ -41,8 +42,7 @@ returns c =
     let l = c .before .before .before .before .before in
     let args = l .before .before .args in
     let s = on (codesInRange (args .most)) (next-one (args .codes .now) (l .loop .i) (search needs)) (l .loop .inv .1) in
-    let z = rw (rest-is (args .codes .now) (l .loop .i + 1)) at (c .all-zero .ensures) in
-    z ∙ (rw (eq-eqb _ 0 (c .before .before .if1 .taken)) at s)
+    of-rest (args .codes .now) (l .loop .i + 1) (all isZero) (c .all-zero .ensures) ∙ (rw (eq-eqb _ 0 (c .before .before .if1 .taken)) at s)
 
 returns-2 : tie.Need-returns-2 Inv-loop μ-loop
 returns-2 c =
