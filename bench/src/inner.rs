@@ -1,5 +1,5 @@
-//! Times one answer on a plan that is known to be sound: the library's inner
-//! call beside the reference's answer over its plan in maps.
+//! Times one answer and one choice on a plan that is known to be sound: the
+//! library's inner calls beside the reference's over its plan in maps.
 
 #[allow(dead_code, unused_imports)]
 #[path = "../../agreement/src/npp.rs"]
@@ -16,12 +16,19 @@ mod same;
 use clock::Clock;
 use made::Made;
 use npp::NppAnswered;
+use npp_reference::bodies;
 use npp_reference::layout;
+use npp_reference::plan::Plan;
+use npp_reference::rules::{self, Filter, Number};
 use std::hint::black_box;
 
 const SETS: u16 = 64;
 const RULES: [u16; 5] = [1, 8, 64, 512, 4096];
 const NUMBERS: usize = 4096;
+/// So many that no processor learns by heart what is chosen for each.
+const CHOICES: usize = 65_536;
+/// What the inner call gives for no rule.
+const NO_PLACE: usize = 65_535;
 
 extern "C" {
     fn npp_answer_known(
@@ -32,6 +39,14 @@ extern "C" {
         out: *mut u8,
         m: usize,
     ) -> NppAnswered;
+
+    fn npp_chosen_known(
+        plan: *const u8,
+        n: usize,
+        class: u8,
+        digits: *const u8,
+        k: usize,
+    ) -> usize;
 }
 
 /// Every plan and body here is the maker's: sound, and in range.
@@ -50,10 +65,35 @@ fn answer_known(plan: &[u8], body: &[u8], out: &mut [u8]) -> NppAnswered {
     }
 }
 
+/// The same holds of these.
+fn chosen_known(plan: &[u8], number: &Number) -> usize {
+    let digits = number.digits;
+    // SAFETY: pointers and lengths are those of two slices.
+    unsafe {
+        npp_chosen_known(
+            plan.as_ptr(),
+            plan.len(),
+            number.class.byte(),
+            digits.as_ptr(),
+            digits.len(),
+        )
+    }
+}
+
+/// The filter that the reference chooses.
+fn chosen<'a>(plan: &'a Plan, number: &Number) -> Option<&'a Filter> {
+    let rules = plan.rules.iter().map(|(filter, &set)| (filter, set));
+    rules::choose(rules, number.class, number.digits).map(|(filter, _)| filter)
+}
+
 fn main() {
     let clock = Clock::from_arguments();
     for rules in RULES {
         time_answer(&clock, rules);
+    }
+    time_choice(&clock, "any", Made::any(SETS));
+    for rules in RULES {
+        time_choice(&clock, &rules.to_string(), Made::full(SETS, rules));
     }
 }
 
@@ -74,6 +114,35 @@ fn time_answer(clock: &Clock, rules: u16) {
         || {
             for body in &bodies {
                 let _ = black_box(made.plan.answer(black_box(body)));
+            }
+        },
+    );
+}
+
+fn time_choice(clock: &Clock, rules: &str, mut made: Made) {
+    let memory = layout::encode(&made.plan);
+    let bodies = made.numbers(clock.scaled(CHOICES / made.plan.rules.len().max(16) * 16));
+    let numbers: Vec<Number> = bodies
+        .iter()
+        .map(|body| bodies::number(body).expect("a number in range"))
+        .collect();
+    for number in &numbers {
+        let expected = chosen(&made.plan, number).map_or(NO_PLACE, |filter| {
+            made.plan.rules.range(..filter).count()
+        });
+        assert_eq!(chosen_known(&memory, number), expected, "a choice differs");
+    }
+    clock.line(
+        &format!("chosen {rules}"),
+        numbers.len(),
+        || {
+            for number in &numbers {
+                black_box(chosen_known(&memory, black_box(number)));
+            }
+        },
+        || {
+            for number in &numbers {
+                black_box(chosen(&made.plan, black_box(number)));
             }
         },
     );

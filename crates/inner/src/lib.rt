@@ -1,10 +1,16 @@
-// The answer over a plan that is known to be sound, exported for the benchmark alone: its caller owes what `answer_known` requires.
+// The answer and the choice over a plan that is known to be sound, exported for the benchmark alone: a caller owes what each requires.
+ghost use mathlib.Core.Path.{_≡_};
+ghost use mathlib.Core.Bool.{true};
 ghost use Rattle.meaning.specs.Settings.{numberOf};
+ghost use Rattle.meaning.specs.Rules.{chosenPlace};
 ghost use Rattle.meaning.specs.Answer.{answerOf};
 ghost use Rattle.plan.specs.Layout.{planOf};
+ghost use Rattle.plan.specs.State.{soundOf};
 ghost use Rattle.number.specs.Answering.{Ready};
 ghost use Rattle.number.specs.Promises.{GivesAnswer};
+ghost use Rattle.inner.specs.Places.{placeNumber};
 use meaning::Answered;
+use meaning::Chosen;
 
 #[no_mangle]
 pub extern "C" fn npp_answer_known(plan: &[u8], body: &[u8], out: &mut [u8]) -> Answered
@@ -12,4 +18,16 @@ pub extern "C" fn npp_answer_known(plan: &[u8], body: &[u8], out: &mut [u8]) -> 
     ensures { λ r. ⌜ GivesAnswer (answerOf (planOf (now (plan .entry))) (numberOf (now (body .entry)))) (now (out .entry)) (now (out .exit)) r ⌝ }
 {
     number::answer_known(plan, body, out)
+}
+
+// The place of the rule chosen for a number, 65,535 for none.
+#[no_mangle]
+pub extern "C" fn npp_chosen_known(plan: &[u8], class: u8, digits: &[u8]) -> usize
+    requires { ⌜ soundOf (now plan) ≡ true ⌝ }
+    ensures { λ r. ⌜ r ≡ placeNumber (chosenPlace class (now (digits .entry)) (planOf (now (plan .entry)) .rules)) ⌝ }
+{
+    match choice::choose(plan, class, digits) {
+        Chosen::At(place) => place.0 as usize,
+        Chosen::NoRule => 65535,
+    }
 }
