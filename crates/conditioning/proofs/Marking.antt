@@ -1,5 +1,5 @@
 -- A table of marks along the CAs: a value that is not marked yet is decided by what is left of the list.
-use Prim.Native.Nat.{ℕ, zero, suc, _+_, _-_, _≤_, _<_}
+use Prim.Native.Nat.{ℕ, _+_, _-_, _≤_, _<_}
 use native.Mathlib.Omega.{arith}
 use mathlib.Core.Path.{_≡_, refl, sym, ap, subst, _∙_}
 use mathlib.Core.Logic.{_≢_}
@@ -7,26 +7,15 @@ use mathlib.Core.Bool.{Bool, true, false}
 use mathlib.Core.List.{List, [], _∷_}
 use lib.ListN.{length, getD}
 use lib.Seq.{getD-set-same, getD-set-other}
-use lib.Dec.{T, eqb, leb, leb→le}
+use lib.Dec.{eqb}
 use borrow.Author.Tests.{eqb-true, eqb-false, eq-eqb, ne-eqb}
-use Rattle.meaning.specs.Basics.{all}
 use Rattle.meaning.specs.Actions.{CA, casOf, valueOf}
 use Rattle.meaning.specs.Conditioning.{width, Stretch, stretchFrom, stretchOf}
-use Rattle.meaning.proofs.Tests.{and-left, and-right}
+use Rattle.meaning.proofs.Stretches.{value-small}
 use Rattle.conditioning.specs.Marks.{Takes, MarksOnce, Markable, Marks, MarksAll}
 use Rattle.conditioning.proofs.Walk.{ccdef-takes-none, takes-its-value}
 
 -- WHICH VALUE AN ACTION TAKES
-
--- an entry of a table that has nothing above 10
-entry-small : (xs : List ℕ) → T (all (λ x. leb x 10) xs) → (c : ℕ) → getD xs c 0 ≤ 10
-entry-small [] t c = omega arith
-entry-small (x ∷ xs) t zero = leb→le x 10 (and-left (leb x 10) _ t)
-entry-small (x ∷ xs) t (suc c) = entry-small xs (and-right (leb x 10) _ t) c
-
-value-small : (c : ℕ) → valueOf c ≤ 10
-unfolding valueOf
-value-small c = entry-small (0 ∷ 0 ∷ 1 ∷ 2 ∷ 3 ∷ 4 ∷ 5 ∷ 7 ∷ 8 ∷ 9 ∷ 10 ∷ 3 ∷ 4 ∷ 5 ∷ 6 ∷ 1 ∷ []) tt c
 
 pub takes-none : (a : CA) → a .code ≡ 15 → Takes a 0
 takes-none a e = record { is = λ v h. ccdef-takes-none v a e ∙ sym (ne-eqb 0 v (λ z. omega arith)); small = omega arith }

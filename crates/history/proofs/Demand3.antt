@@ -1,7 +1,7 @@
 -- Demand 3: the claim holds of every list of calls that begins with an accepted opening.
 use Prim.Native.Nat.{ℕ, zero, suc, _+_, _≤_, _/_, _%_}
 use mathlib.Core.Path.{_≡_, refl, ap, ap₂, sym, subst, _∙_}
-use mathlib.Core.Logic.{_↔_, _≢_, _⊎_, inl, inr}
+use mathlib.Core.Logic.{_↔_, _≢_}
 use mathlib.Core.Bool.{Bool, true, false, not}
 use mathlib.Core.List.{List, [], _∷_, _++_, map, List·Memᴰ, List·Memᴰ·head, List·Memᴰ·tail}
 use mathlib.Core.Option.{Option, none, some}
@@ -10,26 +10,26 @@ use lib.ListN.{length, take, getD, getElem?, length-map}
 use lib.Dec.{T, eqb, leb, ltb, eqb-refl}
 use borrow.Author.Tests.{eqb-true, leb-true, le-ltb}
 use Rattle.meaning.specs.Basics.{if_then_else_, within, all, any, count, part, isSome, word}
-use Rattle.meaning.specs.Refusals.{PLAN, IN-USE, SHORT}
+use Rattle.meaning.specs.Refusals.{PLAN, IN-USE}
 use Rattle.meaning.specs.Settings.{roomsOf, roomsInRange}
 use Rattle.meaning.specs.Rules.{Rule, filterIn, names, chosen}
 use Rattle.meaning.specs.Choice.{IsChoice, NoneFits}
 use Rattle.meaning.specs.Actions.{CA, isIGN, isCCDEF, valueOf, actionsOf}
 use Rattle.meaning.specs.Conditioning.{Stretch, digitsAt, adds, joined}
-use Rattle.meaning.specs.Stretches.{stretchAt, Covers, covered, fixed, ignored, matched, allLeft, takesNone}
+use Rattle.meaning.specs.Stretches.{Covers, covered, fixed, ignored, matched, allLeft, takesNone}
 use Rattle.meaning.specs.Plan.{Plan, held, referrers, withSlot}
 use Rattle.meaning.specs.Numbers.{Conditions, NumberHolds}
 use Rattle.meaning.specs.Answer.{answer}
 use Rattle.meaning.specs.Reads.{Read, read, Count, Listed, listed, listing, ruleCount, ruleAtPlace, conditioned, stretch, setContent, referrerCount}
-use Rattle.meaning.specs.Calls.{Call, openPlan, removeSet, bodyLength, isCut, bodyOf, openedRooms, setNumber, lacksBytes, refusal, after, putInFrom, refusalsFrom}
+use Rattle.meaning.specs.Calls.{Call, openPlan, removeSet, bodyLength, isCut, openedRooms, setNumber, lacksBytes, refusal, after, putInFrom, refusalsFrom}
 use Rattle.meaning.specs.LookBack.{accepted, lastContent}
 use Rattle.meaning.specs.History.{noRule, removal, PutIn}
 use Rattle.meaning.specs.Answers.{refusalOfWritten, bytesWritten, countOf, placeChosen, ruleListed, spanOf}
 use Rattle.meaning.specs.declared.Written.{Written}
 use Rattle.meaning.specs.declared.Counted.{Counted}
 use Rattle.meaning.specs.declared.Chosen.{Chosen}
-use Rattle.meaning.specs.declared.Span.{Span}
-use Rattle.meaning.proofs.Tests.{is-true, true-is, is-false, false-is, and-left, and-right, any-mem, none-counted}
+use Rattle.meaning.proofs.Stretches.{value-small}
+use Rattle.meaning.proofs.Tests.{is-true, false-is, and-right, any-mem, none-counted}
 use Rattle.meaning.proofs.Soundness.{Sound, sound-of, sound-parts, held-passes}
 use Rattle.meaning.proofs.Choice.{Choice, noRule as noneFits, theRule, choice}
 use Rattle.meaning.proofs.Numbers.{every-number}
@@ -41,12 +41,12 @@ use Rattle.plan.proofs.ReadLaws.{sound-is, rule-count-is}
 use Rattle.buffer.proofs.ListLaws.{element-at}
 use Rattle.choice.specs.Chosen.{ChoicePromise}
 use Rattle.choice.proofs.Chosen.{chosen-at, none-chosen as nothing-chosen}
-use Rattle.changes.specs.Promise.{memoryAfter, Provides, calls, Chain, done, next}
+use Rattle.changes.specs.Promise.{memoryAfter, Provides, calls, Chain, next}
 use Rattle.changes.proofs.Chains.{after-call, from-opening, same-refusal}
-use Rattle.number.specs.Promises.{GivesAnswer, AnswerPromise}
-use Rattle.reads.specs.Promises.{GivesRead, GivesStretch, ConditionedPromise, ContentPromise, ReferrersPromise, SpanPromise, StretchPromise}
+use Rattle.number.specs.Promises.{GivesAnswer}
+use Rattle.reads.specs.Promises.{GivesRead, GivesStretch, ConditionedPromise, ContentPromise, ReferrersPromise}
 use Rattle.reads.specs.AfterCalls.{contentRead, countRead}
-use Rattle.history.specs.Claim.{naming, ReadsAs, ChoosesAs, Removes, stretchGiven, ConditionsAs, Claim, Demand3}
+use Rattle.history.specs.Claim.{naming, ReadsAs, ChoosesAs, Removes, stretchGiven, ConditionsAs, Demand3}
 
 -- THE PLAN THAT A MEMORY HOLDS
 
@@ -223,28 +223,22 @@ module _ (m : List ℕ) (p : Plan) (state : stateOf m ≡ some p) (s : Sound p) 
 -- CONDITIONING
 
 -- a value that a code sets is a byte
-value-small : (c : ℕ) → valueOf c ≤ 255
-unfolding valueOf
-value-small c = go (0 ∷ 0 ∷ 1 ∷ 2 ∷ 3 ∷ 4 ∷ 5 ∷ 7 ∷ 8 ∷ 9 ∷ 10 ∷ 3 ∷ 4 ∷ 5 ∷ 6 ∷ 1 ∷ []) c tt
-  where
-    go : (vs : List ℕ) (k : ℕ) → T (all (λ v. leb v 255) vs) → getD vs k 0 ≤ 255
-    go [] k t = omega arith
-    go (v ∷ vs) zero t = leb-true v 255 (is-true _ (and-left (leb v 255) (all (λ v. leb v 255) vs) t))
-    go (v ∷ vs) (suc k) t = go vs k (and-right (leb v 255) (all (λ v. leb v 255) vs) t)
+value-byte : (c : ℕ) → valueOf c ≤ 255
+value-byte c = omega (arith, value-small c)
 
 -- what covers the digits depends on what is read of bytes alone
 covers-same : (read other : ℕ → Stretch) (prefix ds : List ℕ) → ((v : ℕ) → v ≤ 255 → other v ≡ read v) → {at : ℕ} {xs : List CA}
     → Covers read prefix ds at xs → Covers other prefix ds at xs
 covers-same read other prefix ds e covered = covered
-covers-same read other prefix ds e (fixed {a = a} c is h rest) = fixed c (e (valueOf (a .code)) (value-small (a .code)) ∙ is) h (covers-same read other prefix ds e rest)
+covers-same read other prefix ds e (fixed {a = a} c is h rest) = fixed c (e (valueOf (a .code)) (value-byte (a .code)) ∙ is) h (covers-same read other prefix ds e rest)
 covers-same read other prefix ds e (ignored c h rest) = ignored c h (covers-same read other prefix ds e rest)
-covers-same read other prefix ds e (matched {a = a} c is q h rest) = matched c (e (valueOf (a .code)) (value-small (a .code)) ∙ is) q h (covers-same read other prefix ds e rest)
-covers-same read other prefix ds e (allLeft {a = a} c is h rest) = allLeft c (e (valueOf (a .code)) (value-small (a .code)) ∙ is) h (covers-same read other prefix ds e rest)
+covers-same read other prefix ds e (matched {a = a} c is q h rest) = matched c (e (valueOf (a .code)) (value-byte (a .code)) ∙ is) q h (covers-same read other prefix ds e rest)
+covers-same read other prefix ds e (allLeft {a = a} c is h rest) = allLeft c (e (valueOf (a .code)) (value-byte (a .code)) ∙ is) h (covers-same read other prefix ds e rest)
 covers-same read other prefix ds e (takesNone c rest) = takesNone c (covers-same read other prefix ds e rest)
 
 adds-same : (read other : ℕ → List ℕ) (ds : List ℕ) → ((v : ℕ) → v ≤ 255 → other v ≡ read v) → (at : ℕ) (a : CA) → adds other ds at a ≡ adds read ds at a
 adds-same read other ds e at a =
-    ap (λ (d : List ℕ). if isIGN a then part at (a .count) ds else if isCCDEF a then [] else d) (e (valueOf (a .code)) (value-small (a .code)))
+    ap (λ (d : List ℕ). if isIGN a then part at (a .count) ds else if isCCDEF a then [] else d) (e (valueOf (a .code)) (value-byte (a .code)))
 
 joined-same : (read other : ℕ → List ℕ) (ds : List ℕ) → ((v : ℕ) → v ≤ 255 → other v ≡ read v) → (at : ℕ) (xs : List CA) → joined other ds at xs ≡ joined read ds at xs
 joined-same read other ds e at [] = refl

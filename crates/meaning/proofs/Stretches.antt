@@ -1,12 +1,12 @@
 -- A set that is in range, keeps the group rules and fits its rule covers every number that the filter fits, unless it is SHORT, and SHORT comes
 -- exactly when demand 3 says.
 use Prim.Native.Nat.{ℕ, zero, suc, _+_, _-_, _≤_, _<_}
-use mathlib.Core.Path.{_≡_, refl, ap, ap₂, sym, subst, _∙_}
+use mathlib.Core.Path.{_≡_, refl, ap, sym, _∙_}
 use mathlib.Core.Logic.{_↔_, _≢_}
 use mathlib.Core.Bool.{Bool, true, false, _&&_, _||_, not}
-use mathlib.Core.List.{List, [], _∷_, _++_, List·Memᴰ, List·Memᴰ·head, List·Memᴰ·tail, append-nil}
+use mathlib.Core.List.{List, [], _∷_, _++_, List·Memᴰ, List·Memᴰ·head, List·Memᴰ·tail}
 use native.Mathlib.Omega.{arith}
-use lib.ListN.{length, take, drop, length-drop, take-append-drop}
+use lib.ListN.{length, take, drop, getD, length-drop, take-append-drop}
 use lib.Seq.{length-take-le, drop-drop, drop-length}
 use lib.Dec.{T, T-not, ltb, leb, eqb, eqb-refl, eqb→eq, leb→le, ltb→lt}
 use borrow.Author.Tests.{eqb-true, eqb-false, leb-true, leb-false, ltb-true, ltb-false, lt-ltb, le-ltb, le-leb, lt-leb, eq-eqb, ne-eqb}
@@ -14,9 +14,9 @@ use Rattle.meaning.specs.Basics.{if_then_else_, all, any, isEmpty, isZer
 use Rattle.meaning.specs.Filters.{Filter, lengthFits, fitsNumber}
 use Rattle.meaning.specs.Actions.{CA, isIGN, isX, isFPFX, isCCDEF, valueOf, setsValue, ActionSet, casOf, casInRange, caInRange, mostOf}
 use Rattle.meaning.specs.Groups.{isSet, eachValueOnce, fpfxFirst, onlyCcdefAfterX, fixedOf, fixedSum, fpfxMeetsPrefix, sumFits, casFit}
-use Rattle.meaning.specs.Conditioning.{width, meetsTooFew, short, Stretch, emptyStretch, takesValue, stretchFrom, stretchOf, digitsAt, adds, joined}
+use Rattle.meaning.specs.Conditioning.{width, meetsTooFew, short, Stretch, stretchFrom, stretchOf, digitsAt, adds, joined}
 use Rattle.meaning.specs.Stretches.{stretchAt, Covers, covered, fixed, ignored, matched, allLeft, takesNone, ShortExactly, Accounted}
-use Rattle.meaning.proofs.Tests.{is-true, true-is, is-false, false-is, and-left, and-right, and-both, or-left-false, or-right-false, or-other, all-mem, any-mem, same-tests, allBelow, at-below}
+use Rattle.meaning.proofs.Tests.{is-true, true-is, is-false, false-is, and-left, and-right, and-both, or-left-false, or-right-false, or-other, all-mem, any-mem, allBelow, at-below}
 use Rattle.meaning.proofs.Choice.{Fits, fits-parts}
 
 -- RANGE, OF EACH ACTION OF A LIST
@@ -35,6 +35,16 @@ all-ranged (c ∷ n ∷ b) t = go (isZero c) refl t (all-ranged b)
     go false e u ih =
         and-both (not (isZero c) && caInRange c n) (all ranged (casOf b)) (rw e (and-left (caInRange c n) (casInRange b) u))
         (ih (and-right (caInRange c n) (casInRange b) u))
+
+-- a value that a code sets is one of ten, or 0 for none
+pub value-small : (c : ℕ) → valueOf c ≤ 10
+unfolding valueOf
+value-small c = go (0 ∷ 0 ∷ 1 ∷ 2 ∷ 3 ∷ 4 ∷ 5 ∷ 7 ∷ 8 ∷ 9 ∷ 10 ∷ 3 ∷ 4 ∷ 5 ∷ 6 ∷ 1 ∷ []) c tt
+  where
+    go : (vs : List ℕ) (k : ℕ) → T (all (λ v. leb v 10) vs) → getD vs k 0 ≤ 10
+    go [] k t = omega arith
+    go (v ∷ vs) zero t = leb→le v 10 (and-left (leb v 10) (all (λ v. leb v 10) vs) t)
+    go (v ∷ vs) (suc k) t = go vs k (and-right (leb v 10) (all (λ v. leb v 10) vs) t)
 
 code-below : (c n : ℕ) → T (caInRange c n) → c < 16
 unfolding caInRange
