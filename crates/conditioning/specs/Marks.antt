@@ -19,7 +19,7 @@ pub record MarksOnce (v start count : ℕ) (starts counts starts' counts' : List
   pub new : getD starts v 0 ≡ 0 → (starts' ≡ set starts v start) × (counts' ≡ set counts v count)
   pub kept : getD starts v 0 ≢ 0 → (starts' ≡ starts) × (counts' ≡ counts)
 
--- n digits that are enough, the place of the first of them, and a table in which nothing is marked
+-- n digits that are enough, the place of the first of them, all of it within 255 places, and a table in which nothing is marked
 pub record Markable (prefix n first : ℕ) (cas starts counts : List ℕ) : Type 0 where
   pub enough : short prefix n (casOf cas) ≡ false
   pub not-zero : 0 < first
@@ -35,7 +35,7 @@ pub record Marks (first n : ℕ) (s : Stretch) (start count : ℕ) : Type 0 wher
   pub counted : count ≡ s .count
   pub begins : count ≢ 0 → start ≡ first + s .start
 
--- so is that of every value, and nothing reaches past the digits
+-- so is that of every value; no place is past the digits, and no count is above theirs
 pub record MarksAll (prefix n first : ℕ) (xs : List CA) (starts counts : List ℕ) : Type 0 where
   pub low : (v : ℕ) → getD starts v 0 ≤ first + n
   pub few : (v : ℕ) → getD counts v 0 ≤ n

@@ -8,11 +8,11 @@ use buffer::wide;
 use meaning::Span;
 ghost use mathlib.Core.Path.{_≡_};
 ghost use mathlib.Core.Bool.{false};
+ghost use Prim.Native.Nat.{_<_};
 ghost use lib.ListN.{length};
 ghost use Rattle.meaning.specs.Actions.{casOf};
 ghost use Rattle.meaning.specs.Conditioning.{width, meetsTooFew, short, takesValue, stretchOf, digitsAt};
 ghost use Rattle.actions.specs.Reading.{actionOf};
-ghost use Prim.Native.Nat.{_<_};
 ghost use Rattle.conditioning.specs.Spans.{stretchIn, Covers};
 ghost use Rattle.conditioning.specs.Marks.{Takes, MarksOnce, Markable, MarksAll};
 

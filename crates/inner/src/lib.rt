@@ -8,7 +8,7 @@ ghost use Rattle.plan.specs.Layout.{planOf};
 ghost use Rattle.plan.specs.State.{soundOf};
 ghost use Rattle.number.specs.Answering.{Ready};
 ghost use Rattle.number.specs.Promises.{GivesAnswer};
-ghost use Rattle.inner.specs.Places.{placeNumber};
+ghost use Rattle.inner.specs.PlaceNumbers.{placeNumber};
 use meaning::Answered;
 use meaning::Chosen;
 
@@ -20,7 +20,10 @@ pub extern "C" fn npp_answer_known(plan: &[u8], body: &[u8], out: &mut [u8]) -> 
     number::answer_known(plan, body, out)
 }
 
-// The place of the rule chosen for a number, 65,535 for none.
+// What stands for no place.
+const NO_PLACE: usize = 65535;
+
+// The place of the rule chosen for a number.
 #[no_mangle]
 pub extern "C" fn npp_chosen_known(plan: &[u8], class: u8, digits: &[u8]) -> usize
     requires { ⌜ soundOf (now plan) ≡ true ⌝ }
@@ -28,6 +31,6 @@ pub extern "C" fn npp_chosen_known(plan: &[u8], class: u8, digits: &[u8]) -> usi
 {
     match choice::choose(plan, class, digits) {
         Chosen::At(place) => place.0 as usize,
-        Chosen::NoRule => 65535,
+        Chosen::NoRule => NO_PLACE,
     }
 }

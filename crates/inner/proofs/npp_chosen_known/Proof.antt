@@ -1,7 +1,7 @@
 -- By what was chosen.
 use mathlib.Core.Path.{ap, sym, _∙_}
 use Rattle.meaning.specs.Answers.{placeChosen}
-use Rattle.inner.specs.Places.{placeNumber}
+use Rattle.inner.specs.PlaceNumbers.{placeNumber}
 use borrow.Author.Needs.{needs}
 use Rattle.inner.proofs.npp_chosen_known.Statement.{statement}
 use Rattle.inner.proofs.npp_chosen_known.Tie as tie
