@@ -17,7 +17,7 @@ module _ (xs ys out : List ℕ) {after : List ℕ} (n : ℕ) (first : after ≡ 
   after-long : length after ≡ length out
   after-long = ap length first ∙ length-over xs out (omega arith)
 
-  pub lent-behind : midOf n (length after - n) after ≡ drop n out
+  lent-behind : midOf n (length after - n) after ≡ drop n out
   lent-behind =
       take-all (length after - n) (drop n after) (rw length-drop (omega arith))
       ∙ (ap (drop n) first ∙ (drop-at xs (drop (length xs) out) n (sym n-is) ∙ ap (λ (k : ℕ). drop k out) (sym n-is)))

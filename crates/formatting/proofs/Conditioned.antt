@@ -5,15 +5,16 @@ use mathlib.Core.Bool.{Bool, true, false}
 use mathlib.Core.List.{List, [], _∷_, _++_, append-assoc, append-nil}
 use native.Mathlib.Nat.{sub-zero}
 use native.Mathlib.Omega.{arith}
-use lib.ListN.{length, take, drop, getD, length-append, length-drop, take-append-drop}
-use lib.Seq.{take-all, take-at, drop-at, length-take-le, drop-drop, drop-length}
-use borrow.Rule.Slice.PartMut.{putMid, midOf, post-is}
-use Rattle.meaning.specs.Basics.{if_then_else_, part}
+use lib.ListN.{length, take, drop, getD, length-append}
+use lib.Seq.{take-all}
+use borrow.Rule.Slice.PartMut.{putMid, midOf}
+use Rattle.meaning.specs.Basics.{if_then_else_, part, writtenOver}
 use Rattle.meaning.specs.Settings.{settingsOf}
 use Rattle.meaning.specs.Actions.{DN, ZN, CA, casOf, codesOf}
 use Rattle.meaning.specs.Groups.{isSet}
 use Rattle.meaning.specs.Conditioning.{short, stretchOf, digitsAt, valueFrom, conditionedFrom}
 use Rattle.meaning.specs.Services.{join}
+use Rattle.blocks.proofs.OverLaws.{length-over, written-behind}
 use Rattle.conditioning.specs.Spans.{stretchIn}
 use Rattle.formatting.specs.Joins.{conditioned, conditionedCodes, Writes}
 
@@ -67,48 +68,45 @@ module _ (settings digits cas : List ℕ) (prefix : ℕ) (codes : List ℕ) (e :
 
 -- HOW A LOOP OVER THE CODES GOES ON
 
--- at `end`, the values before place i are written, and the bytes behind them are as they were
+-- at `end`, the values before place i are written over the front of what was lent
 pub record JoiningOver (v : ℕ → List ℕ) (codes old : List ℕ) (i end : ℕ) (out : List ℕ) : Type 0 where
+  pub done : List ℕ
+  pub out-is : out ≡ writtenOver done old
+  pub end-is : end ≡ length done
   pub inside : end ≤ length old
-  pub long : length out ≡ length old
-  pub written : take end out ++ join v (codesOf (drop i codes)) ≡ join v (codesOf codes)
-  pub behind : drop end out ≡ drop end old
+  pub joins : done ++ join v (codesOf (drop i codes)) ≡ join v (codesOf codes)
 
 pub over-none : (v : ℕ → List ℕ) (codes old : List ℕ) → JoiningOver v codes old 0 0 old
-over-none v codes old = record { inside = omega arith; long = refl; written = refl; behind = refl }
+over-none v codes old = record { done = []; out-is = refl; end-is = refl; inside = omega arith; joins = refl }
 
 module _ {v : ℕ → List ℕ} {codes old out : List ℕ} {i end : ℕ} (g : JoiningOver v codes old i end out) where
-  front-long : length (take end out) ≡ end
-  front-long = length-take-le end out (omega (arith, g .inside, g .long))
+  pub over-long : length out ≡ length old
+  over-long = ap length (g .out-is) ∙ length-over (g .done) old (omega (arith, g .end-is, g .inside))
 
   -- none is left
   pub over-all : codesOf (drop i codes) ≡ [] → Writes (join v (codesOf codes)) old out end
   over-all e =
-      let t : take end out ≡ join v (codesOf codes) = sym (append-nil (take end out)) ∙ (rw e at (g .written)) in
-      let l : length (join v (codesOf codes)) ≡ end = sym (ap length t) ∙ front-long in
-      record { written = sym (take-append-drop end out) ∙ rw (t, g .behind, l); count = sym l }
+      let d : g .done ≡ join v (codesOf codes) = sym (append-nil (g .done)) ∙ (rw e at (g .joins)) in
+      record { written = g .out-is ∙ ap (λ (x : List ℕ). writtenOver x old) d; count = g .end-is ∙ ap length d }
 
   module _ {f : ℕ} (e : codesOf (drop i codes) ≡ f ∷ codesOf (drop (i + 1) codes)) (value : List ℕ) (is : value ≡ v f) (room : length (join v (codesOf codes)) ≤ length old) where
-    next : take end out ++ (value ++ join v (codesOf (drop (i + 1) codes))) ≡ join v (codesOf codes)
-    next = rw (e, ← is) at (g .written)
+    next : g .done ++ (value ++ join v (codesOf (drop (i + 1) codes))) ≡ join v (codesOf codes)
+    next = rw (e, ← is) at (g .joins)
+
+    fits : end + length value ≤ length old
+    fits = omega (arith, simp length-append at (ap length next), g .end-is)
 
     pub over-room : end + length value ≤ length out
-    over-room = omega (arith, simp (length-append, front-long) at (ap length next), g .long)
+    over-room = omega (arith, fits, over-long)
 
     -- the value directly behind those before it
-    pub over-more : (last : List ℕ) → last ≡ value ++ drop (length value) (midOf end (length out - end) out)
+    pub over-more : (last : List ℕ) → last ≡ writtenOver value (midOf end (length out - end) out)
         → JoiningOver v codes old (i + 1) (end + length value) (putMid end (length out - end) out last)
     over-more last w =
-        let h : end + length value ≤ length out = over-room in
-        let p : List ℕ = take end out ++ value in
-        let k : length p ≡ end + length value = length-append (take end out) value ∙ rw front-long in
-        let l : length (drop end out) ≡ length out - end = length-drop end out in
-        let m : take (length out - end) (drop end out) ≡ drop end out = take-all (length out - end) (drop end out) (omega arith) in
-        let z : drop (length out - end) (drop end out) ≡ [] = post-is end (length out) out (omega arith) ∙ drop-length out in
-        let s : putMid end (length out - end) out last ≡ p ++ drop (end + length value) out = rw (z, append-nil, w, m, drop-drop, append-assoc) in
         record {
-          inside = omega (arith, g .long);
-          long = rw s (omega (arith, length-append p (drop (end + length value) out), length-drop (end + length value) out, g .long));
-          written = rw (s, take-at p (drop (end + length value) out) (end + length value) k, append-assoc) next;
-          behind = rw (s, drop-at p (drop (end + length value) out) (end + length value) k, ← drop-drop (length value) end out, g .behind) (drop-drop (length value) end old);
+          done = g .done ++ value;
+          out-is = written-behind (g .done) value old end (g .out-is) (g .end-is) fits last w;
+          end-is = ap (λ (k : ℕ). k + length value) (g .end-is) ∙ sym (length-append (g .done) value);
+          inside = fits;
+          joins = append-assoc (g .done) value _ ∙ next;
         }

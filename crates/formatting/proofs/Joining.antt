@@ -17,7 +17,7 @@ use Rattle.meaning.specs.Services.{rnSet, valueToSend, join}
 use Rattle.meaning.proofs.Tests.{is-true}
 use Rattle.services.specs.declared.Served.{Served}
 use Rattle.services.specs.Stages.{stageOf, stageAfter, ServedAs}
-use Rattle.formatting.specs.Values.{valueSent}
+use Rattle.formatting.proofs.Values.{valueSent}
 use Rattle.formatting.specs.Joins.{outgoing, JoinsInto}
 
 -- WHICH VALUES

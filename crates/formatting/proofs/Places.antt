@@ -9,7 +9,7 @@ use lib.Seq.{take-all, take-take, take-add, take-at, drop-at, take-append-le, dr
 use Rattle.meaning.specs.Basics.{part, digitsOf, writtenOver}
 use Rattle.meaning.specs.declared.Span.{Span}
 use Rattle.buffer.proofs.ListLaws.{part-part}
-use Rattle.formatting.specs.Sources.{sourceOf, settingsIn, lookupIn, digitsIn, Lies}
+use Rattle.formatting.specs.Sources.{settingsIn, lookupIn, digitsIn, Lies}
 
 -- PARTS OF A SOURCE
 
@@ -89,6 +89,10 @@ module _ (source out : List ℕ) (start count k : ℕ) (h : 16 ≤ k) where
         rw (e, both) (take-append-le count (part start 32 source) _ (omega arith) ∙ take-take count 32 (drop start source) few)
 
 -- A SOURCE
+
+-- a body of 73 bytes and settings of 36, at the front of a buffer; behind them is room for a block that is taken whole
+unfoldable pub sourceOf : List ℕ → List ℕ → List ℕ → List ℕ
+sourceOf settings body buffer = body ++ (settings ++ drop 109 buffer)
 
 -- the settings behind a body
 pub source-is : (settings body buffer : List ℕ) → length settings ≡ 36 → length body ≡ 73 → writtenOver (body ++ settings) buffer ≡ sourceOf settings body buffer

@@ -6,12 +6,12 @@ use native.Mathlib.Omega.{arith}
 use lib.ListN.{length, take, replicate}
 use lib.Seq.{take-all}
 use borrow.Rule.Slice.PartMut.{putMid, midOf}
-use Rattle.meaning.specs.Basics.{part, writtenOver}
+use Rattle.meaning.specs.Basics.{writtenOver}
 use Rattle.services.specs.declared.Served.{Served}
 use Rattle.blocks.proofs.OverLaws.{array-behind, length-over}
-use Rattle.formatting.specs.Sources.{sourceOf, Formattable, Taking}
+use Rattle.formatting.specs.Sources.{lookupIn, digitsIn, Formattable, Taking}
 use Rattle.formatting.specs.Joins.{outgoing, outgoingIn, JoinsInto}
-use Rattle.formatting.proofs.Places.{source-is, source-long, source-settings, source-part}
+use Rattle.formatting.proofs.Places.{sourceOf, source-is, source-long, source-settings, source-part}
 use Rattle.formatting.proofs.Joining.{joins-as}
 
 -- bytes that are 0, with a body over the front of them and the settings behind it
@@ -20,7 +20,7 @@ module _ {settings body cas : List ℕ} {n prefix : ℕ} (f : Formattable settin
   abbrev source : List ℕ
   source = putMid 73 71 after last
 
-  pub made-is : source ≡ sourceOf settings body (replicate 144 0)
+  made-is : source ≡ sourceOf settings body (replicate 144 0)
   made-is =
       let b : take 73 body ≡ body = take-all 73 body (omega (arith, f .body-long)) in
       let s : take 36 settings ≡ settings = take-all 36 settings (omega (arith, f .settings-long)) in
@@ -39,7 +39,7 @@ module _ {settings body cas : List ℕ} {n prefix : ℕ} (f : Formattable settin
       }
 
   pub joined-made : (served : Served) (fas : List ℕ) {out : List ℕ} {most r : ℕ} → JoinsInto (outgoingIn source n cas prefix served fas) most out r
-      → JoinsInto (outgoing settings (part 34 39 body) (part 2 n body) cas prefix served fas) most out r
+      → JoinsInto (outgoing settings (lookupIn body) (digitsIn n body) cas prefix served fas) most out r
   joined-made served fas j =
       joins-as
       (rw (

@@ -11,17 +11,17 @@ use lib.Dec.{T, leb, eqb}
 use borrow.Author.Tests.{eqb-true, eqb-false, leb-true, leb-false, le-leb, lt-leb}
 use Rattle.meaning.specs.Basics.{if_then_else_, any, isZero, contains, part, digitsOf}
 use Rattle.meaning.specs.Settings.{settingsOf}
-use Rattle.meaning.specs.Actions.{CC, isCCDEF, casOf, codesOf}
+use Rattle.meaning.specs.Actions.{isCCDEF, casOf, codesOf}
 use Rattle.meaning.specs.Conditioning.{Stretch, stretchOf, digitsAt, valueFrom}
 use Rattle.meaning.specs.Services.{join}
 use Rattle.meaning.specs.declared.Span.{Span}
 use Rattle.services.specs.declared.Served.{Served}
 use Rattle.conditioning.specs.Marks.{Marks, MarksAll}
-use Rattle.formatting.specs.Values.{serviceValue, valueSent}
+use Rattle.formatting.specs.Values.{serviceValue}
 use Rattle.formatting.specs.Sources.{settingsIn, lookupIn, digitsIn, Taking, Lies}
 use Rattle.formatting.specs.Tables.{Blank, Table, Places, valueAt, placedValue}
 use Rattle.formatting.specs.Joins.{outgoingIn}
-use Rattle.formatting.proofs.Values.{value-default, value-taken, value-not-default, sent-conditioned, sent-served}
+use Rattle.formatting.proofs.Values.{valueSent, value-default, value-taken, value-not-default, sent-conditioned, sent-served}
 use Rattle.formatting.proofs.Places.{part-within, digits-long}
 use Rattle.formatting.proofs.Joining.{join-same, outgoing-is}
 

@@ -10,12 +10,12 @@ use lib.Dec.{eqb}
 use borrow.Author.Tests.{eq-eqb, ne-eqb, le-leb, lt-leb}
 use Rattle.meaning.specs.Basics.{if_then_else_, any, isEmpty, part, digitsOf}
 use Rattle.meaning.specs.Settings.{settingsOf, lookupOf}
-use Rattle.meaning.specs.Actions.{CC, CA, isCCDEF, casOf}
+use Rattle.meaning.specs.Actions.{RN, CC, CA, isCCDEF, casOf}
 use Rattle.meaning.specs.Conditioning.{stretchOf, digitsAt, valueFrom}
-use Rattle.meaning.specs.Services.{atStart, rnSet, valueToSend}
+use Rattle.meaning.specs.Services.{Stage, atStart, rnSet, valueToSend}
 use Rattle.services.specs.declared.Served.{Served}
 use Rattle.services.specs.Stages.{stageOf}
-use Rattle.formatting.specs.Values.{digitsIf, rnOf, spOf, serviceValue, valueSent}
+use Rattle.formatting.specs.Values.{digitsIf, rnOf, spOf, serviceValue}
 
 -- RN AND SP
 
@@ -78,6 +78,15 @@ module _ (country digits : List ℕ) (prefix v : ℕ) (xs : List CA) where
       go false = refl
 
 -- EITHER
+
+-- the stage by which an FA's value is asked for: RN is set where an FA asks for it
+abbrev pub stageAsked : List ℕ → List ℕ → Served → Stage
+stageAsked settings lookup served = stageOf (settingsOf settings) (lookupOf lookup) (RN ∷ []) served
+
+-- document 01's value of an FA
+unfoldable pub valueSent : List ℕ → List ℕ → List ℕ → List ℕ → ℕ → Served → ℕ → List ℕ
+valueSent settings lookup digits cas prefix served f =
+    valueToSend (settingsOf settings) (valueFrom (settingsOf settings .country) prefix digits (casOf cas)) (stageAsked settings lookup served) f
 
 -- no value has a code above 16
 beyond : (n f : ℕ) → n < f → f ≢ suc n → suc n < f

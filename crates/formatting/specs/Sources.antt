@@ -2,16 +2,12 @@
 use Prim.Native.Nat.{ℕ, _≤_}
 use mathlib.Core.Path.{_≡_}
 use mathlib.Core.Bool.{false}
-use mathlib.Core.List.{List, _++_}
-use lib.ListN.{length, drop}
+use mathlib.Core.List.{List}
+use lib.ListN.{length}
 use Rattle.meaning.specs.Basics.{part}
 use Rattle.meaning.specs.Actions.{casOf}
 use Rattle.meaning.specs.Conditioning.{short}
 use Rattle.meaning.specs.declared.Span.{Span}
-
--- a body of 73 bytes and settings of 36, at the front of a buffer; behind them is room for a block that is taken whole
-unfoldable pub sourceOf : List ℕ → List ℕ → List ℕ → List ℕ
-sourceOf settings body buffer = body ++ (settings ++ drop 109 buffer)
 
 -- the settings and the lookup that a source has
 abbrev pub settingsIn : List ℕ → List ℕ

@@ -6,18 +6,12 @@ use lib.ListN.{getD}
 use lib.Dec.{eqb}
 use Rattle.meaning.specs.Basics.{if_then_else_, digitsOf}
 use Rattle.meaning.specs.Settings.{settingsOf, lookupOf}
-use Rattle.meaning.specs.Actions.{RN, casOf}
-use Rattle.meaning.specs.Conditioning.{valueFrom}
-use Rattle.meaning.specs.Services.{Stage, atStart, rnSet, valueToSend}
+use Rattle.meaning.specs.Actions.{RN}
+use Rattle.meaning.specs.Services.{atStart, rnSet}
 use Rattle.services.specs.declared.Served.{Served}
-use Rattle.services.specs.Stages.{stageOf}
 
 abbrev pub digitsIf : Bool → List ℕ → List ℕ
 digitsIf set s = if set then digitsOf s else []
-
--- the stage by which an FA's value is asked for: RN is set where an FA asks for it
-abbrev pub stageAsked : List ℕ → List ℕ → Served → Stage
-stageAsked settings lookup served = stageOf (settingsOf settings) (lookupOf lookup) (RN ∷ []) served
 
 unfoldable pub rnOf : List ℕ → List ℕ → Bool → List ℕ
 rnOf settings lookup ported = if ported then rnSet (settingsOf settings) (lookupOf lookup) (RN ∷ []) atStart else []
@@ -33,8 +27,3 @@ serviceValues settings lookup served =
 
 unfoldable pub serviceValue : List ℕ → List ℕ → Served → ℕ → List ℕ
 serviceValue settings lookup served f = getD (serviceValues settings lookup served) (f - 11) []
-
--- document 01's value of an FA
-unfoldable pub valueSent : List ℕ → List ℕ → List ℕ → List ℕ → ℕ → Served → ℕ → List ℕ
-valueSent settings lookup digits cas prefix served f =
-    valueToSend (settingsOf settings) (valueFrom (settingsOf settings .country) prefix digits (casOf cas)) (stageAsked settings lookup served) f

@@ -19,7 +19,7 @@ ghost use Rattle.meaning.specs.Actions.{casOf, codesOf};
 ghost use Rattle.meaning.specs.Conditioning.{valueFrom};
 ghost use Rattle.meaning.specs.Services.{join};
 ghost use Rattle.formatting.specs.Values.{digitsIf, rnOf, spOf, serviceValue};
-ghost use Rattle.formatting.specs.Sources.{settingsIn, lookupIn, Formattable, Held, Taking, Lies};
+ghost use Rattle.formatting.specs.Sources.{settingsIn, lookupIn, digitsIn, Formattable, Held, Taking, Lies};
 ghost use Rattle.formatting.specs.Tables.{Blank, Table, Places, placedValue};
 ghost use Rattle.formatting.specs.Joins.{outgoing, conditioned, conditionedCodes, outgoingIn, Conditionable, Writes, JoinsInto};
 
@@ -155,7 +155,7 @@ fn service_value(source: &[u8], served: Served, f: u8) -> Span
 
 // A TABLE of where the values that conditioning sets lie
 
-// The place of CC in a table.
+// The place of CC in a table: its number.
 const CC_PLACE: usize = 1;
 
 // Makes the table of a number of n digits: CC by CCDEF is the default country code, any other value the stretch of the number that it covers.
@@ -240,7 +240,7 @@ fn join_placed(
     }
 }
 
-// The same by the conditioning and formatting actions, for a number of n digits.
+// The same by the table of a number of n digits, which is made here.
 fn join_values(
     source: &[u8],
     n: usize,
@@ -274,7 +274,7 @@ pub fn join_outgoing(
     out: &mut [u8],
 ) -> usize
     requires { ⌜ Formattable (now settings) (now body) n (now cas) prefix × (most ≤ 35) × (most + 32 ≤ length (now out)) ⌝ }
-    ensures { λ r. ⌜ JoinsInto (outgoing (now (settings .entry)) (part 34 39 (now (body .entry))) (part 2 n (now (body .entry))) (now (cas .entry)) prefix served (now (fas .entry))) most (now (out .exit)) r ⌝ }
+    ensures { λ r. ⌜ JoinsInto (outgoing (now (settings .entry)) (lookupIn (now (body .entry))) (digitsIn n (now (body .entry))) (now (cas .entry)) prefix served (now (fas .entry))) most (now (out .exit)) r ⌝ }
 {
     let mut source = [0u8; SOURCE_BYTES];
     copy(&mut source, &body[0..SETTINGS]);

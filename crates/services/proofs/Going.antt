@@ -12,7 +12,7 @@ use Rattle.meaning.specs.Settings.{Settings, Lookup, settingsOf, lookupOf}
 use Rattle.meaning.specs.Actions.{codesOf}
 use Rattle.meaning.specs.Services.{Stage, atStart, responded, serve, eightPlaces}
 use Rattle.services.specs.declared.Served.{Served}
-use Rattle.services.specs.Stages.{stageOf, unserved, stageAfter, ServedAs, ServedFrom, ServedAnew}
+use Rattle.services.specs.Stages.{stageOf, noEffect, servedWith, stageAfter, ServedAs, ServedFrom, ServedAnew}
 use Rattle.services.proofs.Stages.{CarriesOut, carryingOut}
 use Rattle.buffer.specs.Zeros.{zeros}
 use Rattle.buffer.proofs.ZeroLaws.{take-zeros, drop-zeros}
@@ -39,7 +39,7 @@ pub record Going (places sas settings lookup : List ℕ) (i : ℕ) (s : Served) 
   pub left : (fas : List ℕ) → rest fas sas settings lookup i s ≡ stageAfter fas sas settings lookup
 
 pub going-none : (places sas settings lookup : List ℕ) → length places ≡ 8
-    → Going places sas settings lookup 0 (unserved places)
+    → Going places sas settings lookup 0 (servedWith places 0 noEffect)
 unfolding stageOf atStart
 going-none places sas settings lookup h = record { at = refl; long = h; behind = refl; left = λ fas. refl }
 

@@ -25,10 +25,6 @@ stageOf settings lookup fas s =
       withheld = s .withheld;
     }
 
--- no action carried out yet
-abbrev pub unserved : List ℕ → Served
-unserved places = record { actions = places; count = 0; response = 0; withheld = false; ported = false; asd = false; grn = false }
-
 -- what the actions come to beside their list, before the first
 abbrev pub noEffect : Effect
 noEffect = record { response = 0; withheld = false; ported = false; asd = false; grn = false }

@@ -3,7 +3,7 @@ use actions::code_at;
 use buffer::wide;
 ghost use mathlib.Core.Path.{_≡_};
 ghost use Prim.Native.Nat.{_≤_};
-ghost use Rattle.services.specs.Stages.{unserved, noEffect, servedWith, responseAfter, withheldAfter, carriedAfter, effectAfter, codeListed, Serviceable, ServedFrom, ServedAnew};
+ghost use Rattle.services.specs.Stages.{noEffect, servedWith, responseAfter, withheldAfter, carriedAfter, effectAfter, codeListed, Serviceable, ServedFrom, ServedAnew};
 
 const INPRTG: u8 = 1;
 
@@ -28,21 +28,6 @@ pub struct Served {
     pub ported: bool,
     pub asd: bool,
     pub grn: bool,
-}
-
-// No action carried out yet, over eight places.
-pub fn unserved(places: [u8; 8]) -> Served
-    ensures { λ r. ⌜ r ≡ unserved places ⌝ }
-{
-    Served {
-        actions: places,
-        count: 0,
-        response: 0,
-        withheld: false,
-        ported: false,
-        asd: false,
-        grn: false,
-    }
 }
 
 // What the actions have come to beside the list of them.

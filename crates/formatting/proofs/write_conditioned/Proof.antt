@@ -5,7 +5,7 @@ use native.Mathlib.Omega.{arith}
 use lib.ListN.{length, length-take, length-drop}
 use Rattle.meaning.specs.Actions.{codesOf}
 use Rattle.meaning.specs.Services.{join}
-use Rattle.formatting.proofs.Conditioned.{valuesOf, conditioned-room, conditioned-writes, JoiningOver, over-none, over-all, over-room, over-more}
+use Rattle.formatting.proofs.Conditioned.{valuesOf, conditioned-room, conditioned-writes, JoiningOver, over-none, over-long, over-all, over-room, over-more}
 use borrow.Author.Needs.{needs}
 use Rattle.formatting.proofs.write_conditioned.Statement.{statement}
 use Rattle.formatting.proofs.write_conditioned.Tie as tie
@@ -79,7 +79,7 @@ loop-again c =
     let r = c .before .before .before .before .before .before .code-at .ensures in
     let n = c .before .before .before .before .before .if1 .left in
     let g = over-more (l .inv .5) (r .goes n) _ (c .before .before .before .before .conditioned-part .ensures) (l .inv .4) _ (c .before .before .copy .ensures) in
-    (l .inv .0, omega (arith, l .inv .0, r .inside n), g .inside, g .long, l .inv .4, g)
+    (l .inv .0, omega (arith, l .inv .0, r .inside n), g .inside, over-long g, l .inv .4, g)
 
 pub write-conditioned-spec : {M : Type 1} → statement M
 write-conditioned-spec =
