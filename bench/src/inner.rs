@@ -121,7 +121,7 @@ fn time_answer(clock: &Clock, rules: u16) {
 
 fn time_choice(clock: &Clock, rules: &str, mut made: Made) {
     let memory = layout::encode(&made.plan);
-    let bodies = made.numbers(clock.scaled(CHOICES / made.plan.rules.len().max(16) * 16));
+    let bodies = made.numbers(clock.scaled(CHOICES / made.plan.rules.len().max(512) * 512));
     let numbers: Vec<Number> = bodies
         .iter()
         .map(|body| bodies::number(body).expect("a number in range"))
