@@ -1,5 +1,7 @@
 -- By the test of what is there.
-use mathlib.Core.Path.{refl}
+use mathlib.Core.Path.{_≡_, refl}
+use mathlib.Core.Logic.{_≢_}
+use lib.ListN.{getD}
 use borrow.Author.Needs.{needs}
 use Rattle.conditioning.proofs.mark.Statement.{statement}
 use Rattle.conditioning.proofs.mark.Tie as tie
@@ -11,7 +13,9 @@ slice-read-if1 : tie.Need-slice-read-if1
 slice-read-if1 c = search needs
 
 returns : tie.Need-returns
-returns c = record { new = λ z. absurd (c .if1 .taken z); kept = λ h. (refl, refl) }
+returns c =
+    let marked : getD (c .before .before .args .starts .now) (c .before .before .args .v) 0 ≢ 0 = c .if1 .taken in
+    record { new = λ z. absurd (marked z); kept = λ h. (refl, refl) }
 
 mul-starts : tie.Need-mul-starts
 mul-starts c = search needs
@@ -32,7 +36,9 @@ same-length-2 : tie.Need-same-length-2
 same-length-2 c = search needs
 
 returns-2 : tie.Need-returns-2
-returns-2 c = record { new = λ z. (refl, refl); kept = λ h. absurd (h (c .if1 .left)) }
+returns-2 c =
+    let unmarked : getD (c .before .before .args .starts .now) (c .before .before .args .v) 0 ≡ 0 = c .if1 .left in
+    record { new = λ z. (refl, refl); kept = λ h. absurd (h unmarked) }
 
 pub mark-spec : {M : Type 1} → statement M
 mark-spec =
