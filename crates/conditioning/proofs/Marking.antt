@@ -1,15 +1,15 @@
 -- A table of marks along the CAs: a value that is not marked yet is decided by what is left of the list.
-use Prim.Native.Nat.{ℕ, _+_, _-_, _≤_, _<_}
+use Prim.Native.Nat.{ℕ, zero, suc, _+_, _-_, _≤_, _<_}
 use native.Mathlib.Omega.{arith}
 use mathlib.Core.Path.{_≡_, refl, sym, ap, subst, _∙_}
 use mathlib.Core.Logic.{_≢_}
 use mathlib.Core.Bool.{Bool, true, false}
 use mathlib.Core.List.{List, [], _∷_}
-use lib.ListN.{length, getD}
+use lib.ListN.{length, getD, replicate}
 use lib.Seq.{getD-set-same, getD-set-other}
 use lib.Dec.{eqb}
 use borrow.Author.Tests.{eqb-true, eqb-false, eq-eqb, ne-eqb}
-use Rattle.meaning.specs.Actions.{CA, casOf, valueOf}
+use Rattle.meaning.specs.Actions.{CA, valueOf}
 use Rattle.meaning.specs.Conditioning.{width, Stretch, stretchFrom, stretchOf}
 use Rattle.meaning.proofs.Stretches.{value-small}
 use Rattle.conditioning.specs.Marks.{Takes, MarksOnce, Markable, Marks, MarksAll}
@@ -38,10 +38,20 @@ pub record Mark (first prefix n : ℕ) (xs : List CA) (at left : ℕ) (rest : Li
 abbrev pub Marking : ℕ → ℕ → ℕ → List CA → ℕ → ℕ → List CA → List ℕ → List ℕ → Type 0
 Marking first prefix n xs at left rest starts counts = (v : ℕ) → Mark first prefix n xs at left rest v (getD starts v 0) (getD counts v 0)
 
-pub marking-none : {prefix n first : ℕ} {cas starts counts : List ℕ} → Markable prefix n first cas starts counts → Marking first prefix n (casOf cas) 0 n (casOf cas) starts counts
+pub marking-none : {prefix n first : ℕ} {xs : List CA} {starts counts : List ℕ} → Markable n first starts counts → Marking first prefix n xs 0 n xs starts counts
 marking-none m v =
     rw (m .starts-none, m .counts-none)
     (record { low = omega arith; few = omega arith; undecided = λ h z. (refl, refl); done = λ h z. absurd (z refl) })
+
+-- columns that are made anew
+zero-at : (n v : ℕ) → getD {A = ℕ} (replicate n 0) v 0 ≡ 0
+zero-at zero v = refl
+zero-at (suc n) zero = refl
+zero-at (suc n) (suc v) = zero-at n v
+
+pub markable-anew : (n first : ℕ) → 0 < first → first + n ≤ 255 → Markable n first (replicate 17 0) (replicate 17 0)
+markable-anew n first h near =
+    record { not-zero = h; near = near; starts-long = refl; counts-long = refl; starts-none = zero-at 17; counts-none = zero-at 17 }
 
 -- the list ends
 pub marking-all : {first prefix n at left : ℕ} {xs : List CA} {starts counts : List ℕ} → Marking first prefix n xs at left [] starts counts → MarksAll prefix n first xs starts counts

@@ -2,11 +2,11 @@
 use Prim.Native.Nat.{ℕ, _+_, _≤_, _<_}
 use mathlib.Core.Path.{_≡_}
 use mathlib.Core.Logic.{_≢_}
-use mathlib.Core.Bool.{false}
+use mathlib.Core.Bool.{Bool, false}
 use mathlib.Core.List.{List}
 use lib.ListN.{length, getD, set}
 use lib.Dec.{eqb}
-use Rattle.meaning.specs.Actions.{CA, casOf}
+use Rattle.meaning.specs.Actions.{CA}
 use Rattle.meaning.specs.Conditioning.{short, Stretch, takesValue, stretchOf}
 
 -- r is the value whose digits an action takes; 0 is that of none
@@ -19,13 +19,12 @@ pub record MarksOnce (v start count : ℕ) (starts counts starts' counts' : List
   pub new : getD starts v 0 ≡ 0 → (starts' ≡ set starts v start) × (counts' ≡ set counts v count)
   pub kept : getD starts v 0 ≢ 0 → (starts' ≡ starts) × (counts' ≡ counts)
 
--- n digits that are enough, the place of the first of them, all of it within 255 places, and a table in which nothing is marked
-pub record Markable (prefix n first : ℕ) (cas starts counts : List ℕ) : Type 0 where
-  pub enough : short prefix n (casOf cas) ≡ false
+-- n digits, the place of the first of them, all of it within 255 places, and a table in which nothing is marked
+pub record Markable (n first : ℕ) (starts counts : List ℕ) : Type 0 where
   pub not-zero : 0 < first
   pub near : first + n ≤ 255
-  pub starts-long : length starts ≡ 11
-  pub counts-long : length counts ≡ 11
+  pub starts-long : length starts ≡ 17
+  pub counts-long : length counts ≡ 17
   pub starts-none : (v : ℕ) → getD starts v 0 ≡ 0
   pub counts-none : (v : ℕ) → getD counts v 0 ≡ 0
 
@@ -40,3 +39,8 @@ pub record MarksAll (prefix n first : ℕ) (xs : List CA) (starts counts : List 
   pub low : (v : ℕ) → getD starts v 0 ≤ first + n
   pub few : (v : ℕ) → getD counts v 0 ≤ n
   pub marks : (v : ℕ) → 0 < v → Marks first n (stretchOf v prefix n xs) (getD starts v 0) (getD counts v 0)
+
+-- r tells whether the n digits are too few; where they are not, the stretch of every value is marked
+pub record MarksUnlessShort (prefix n first : ℕ) (xs : List CA) (starts counts : List ℕ) (r : Bool) : Type 0 where
+  pub short-is : r ≡ short prefix n xs
+  pub marked : r ≡ false → MarksAll prefix n first xs starts counts

@@ -14,7 +14,7 @@ ghost use Rattle.meaning.specs.Actions.{casOf};
 ghost use Rattle.meaning.specs.Conditioning.{width, meetsTooFew, short, takesValue, stretchOf, digitsAt};
 ghost use Rattle.actions.specs.Reading.{actionOf};
 ghost use Rattle.conditioning.specs.Spans.{stretchIn, Covers};
-ghost use Rattle.conditioning.specs.Marks.{Takes, MarksOnce, Markable, MarksAll};
+ghost use Rattle.conditioning.specs.Marks.{Takes, MarksOnce, Markable, MarksUnlessShort};
 
 const CCDEF: u8 = 15;
 
@@ -115,8 +115,8 @@ pub fn stretch_in<'a>(cas: &[u8], prefix: usize, digits: &'a [u8], v: u8) -> &'a
 
 // MARKS: where the digits of every value lie, found in one walk
 
-// The places of a table of marks: one for each value that conditioning sets, and place 0 for actions that take none.
-pub const PLACES: usize = 11;
+// The places of a table of marks: one for each formatting code, of which conditioning sets the first ten, and place 0 for actions that take no value.
+pub const PLACES: usize = 17;
 
 // The value whose digits an action takes; 0 for IGN, and for CCDEF, which takes none.
 fn value_taken(a: ConditioningAction) -> usize
@@ -129,28 +129,28 @@ fn value_taken(a: ConditioningAction) -> usize
 }
 
 // Marks a value that is not marked yet.
-fn mark(v: usize, start: usize, count: usize, starts: &mut [usize], counts: &mut [usize])
-    requires { ⌜ (v < length (now starts)) × (v < length (now counts)) ⌝ }
+fn mark(v: usize, start: usize, count: usize, starts: &mut [u8], counts: &mut [u8])
+    requires { ⌜ (v < length (now starts)) × (v < length (now counts)) × (start < 256) × (count < 256) ⌝ }
     ensures { λ _. ⌜ MarksOnce v start count (now (starts .entry)) (now (counts .entry)) (now (starts .exit)) (now (counts .exit)) ⌝ }
 {
     if starts[v] != 0 {
         return;
     }
-    starts[v] = start;
-    counts[v] = count;
+    starts[v] = start as u8;
+    counts[v] = count as u8;
 }
 
-// Marks where the digits of each value lie, of n digits that are enough; the first of them has place `first`, which is not 0.
+// Whether some action meets too few of n digits; where none does, marks where the digits of each value lie. The first digit has place `first`, which is not 0.
 pub fn mark_spans(
     cas: &[u8],
     prefix: usize,
     n: usize,
     first: usize,
-    starts: &mut [usize],
-    counts: &mut [usize],
-)
-    requires { ⌜ Markable prefix n first (now cas) (now starts) (now counts) ⌝ }
-    ensures { λ _. ⌜ MarksAll prefix n first (casOf (now (cas .entry))) (now (starts .exit)) (now (counts .exit)) ⌝ }
+    starts: &mut [u8],
+    counts: &mut [u8],
+) -> bool
+    requires { ⌜ Markable n first (now starts) (now counts) ⌝ }
+    ensures { λ r. ⌜ MarksUnlessShort prefix n first (casOf (now (cas .entry))) (now (starts .exit)) (now (counts .exit)) r ⌝ }
 {
     let mut taken = 0;
     let mut left = n;
@@ -158,7 +158,10 @@ pub fn mark_spans(
     loop {
         let a = action_at(cas, i);
         if a.code == 0 {
-            return;
+            return false;
+        }
+        if meets_too_few(a, prefix, left) {
+            return true;
         }
         let w = width(a, prefix, left);
         mark(value_taken(a), first + taken, w, starts, counts);

@@ -50,9 +50,8 @@ module _ (source : List ℕ) (at width n : ℕ) (room : at + width < length sour
   string-some h = lies-at n h (string-is ∙ take-take n width (drop (at + 1) source) h)
 
 -- the first n digits
-module _ (source : List ℕ) (n : ℕ) (long : length source ≡ 144) (few : n ≤ 32) where
-  pub digits-long : length (digitsIn n source) ≡ n
-  digits-long = length-take-le n (drop 2 source) (rw length-drop (omega arith))
+pub digits-long : (source : List ℕ) (n : ℕ) → 2 + n ≤ length source → length (digitsIn n source) ≡ n
+digits-long source n room = length-take-le n (drop 2 source) (rw length-drop (omega arith))
 
 -- BLOCKS
 

@@ -1,140 +1,178 @@
--- Tables of places: they have the values that conditioning sets, and by them the outgoing digits are joined.
-use Prim.Native.Nat.{ℕ, zero, suc, _≤_, _<_}
-use mathlib.Core.Path.{_≡_, refl, sym, ap, _∙_}
+-- Tables of places: a value put in, the values that conditioning and the service actions set, and the outgoing digits joined by them.
+use Prim.Native.Nat.{ℕ, _+_, _-_, _≤_, _<_}
+use mathlib.Core.Path.{_≡_, refl, sym, ap, subst, _∙_}
 use mathlib.Core.Logic.{_≢_}
-use mathlib.Core.Bool.{Bool, true, false, _||_}
+use mathlib.Core.Bool.{Bool, true, false, _&&_, _||_}
 use mathlib.Core.List.{List, [], _∷_}
 use native.Mathlib.Omega.{arith}
-use lib.ListN.{length, drop, getD, set, replicate, length-set, length-drop}
+use lib.ListN.{length, drop, getD, set, length-set, length-drop, List·getD-eq-default}
 use lib.Seq.{getD-set-same, getD-set-other, length-take-le}
 use lib.Dec.{T, leb, eqb}
 use borrow.Author.Tests.{eqb-true, eqb-false, leb-true, leb-false, le-leb, lt-leb}
 use Rattle.meaning.specs.Basics.{if_then_else_, any, isZero, contains, part, digitsOf}
 use Rattle.meaning.specs.Settings.{settingsOf}
-use Rattle.meaning.specs.Actions.{isCCDEF, casOf, codesOf}
+use Rattle.meaning.specs.Actions.{CC, CA, isCCDEF, casOf, codesOf}
 use Rattle.meaning.specs.Conditioning.{Stretch, stretchOf, digitsAt, valueFrom}
 use Rattle.meaning.specs.Services.{join}
 use Rattle.meaning.specs.declared.Span.{Span}
 use Rattle.services.specs.declared.Served.{Served}
 use Rattle.conditioning.specs.Marks.{Marks, MarksAll}
 use Rattle.formatting.specs.Values.{serviceValue}
-use Rattle.formatting.specs.Sources.{settingsIn, lookupIn, digitsIn, Taking, Lies}
-use Rattle.formatting.specs.Tables.{Blank, Table, Places, valueAt, placedValue}
-use Rattle.formatting.specs.Joins.{outgoingIn}
-use Rattle.formatting.proofs.Values.{valueSent, value-default, value-taken, value-not-default, sent-conditioned, sent-served}
+use Rattle.formatting.specs.Sources.{settingsIn, lookupIn, digitsIn, Formattable, Lies}
+use Rattle.formatting.specs.Tables.{Table, valueAt, Has, placeOf, sentAt, takenValue, servedOver, valueMade}
+use Rattle.formatting.specs.Joins.{outgoing, outgoingBy}
+use Rattle.formatting.proofs.Values.{valueSent, sent-conditioned, sent-served}
 use Rattle.formatting.proofs.Places.{part-within, digits-long}
 use Rattle.formatting.proofs.Joining.{join-same, outgoing-is}
 
--- a column that is made anew is blank
-zero-at : (n v : ℕ) → getD {A = ℕ} (replicate n 0) v 0 ≡ 0
-zero-at zero v = refl
-zero-at (suc n) zero = refl
-zero-at (suc n) (suc v) = zero-at n v
+-- A VALUE PUT IN
 
-pub blank : Blank (replicate 11 0)
-blank = record { long = refl; none = zero-at 11 }
+module _ {source starts counts : List ℕ} (t : Table source starts counts) (u : ℕ) (inside : u ≤ 16) (r : Span) {value : List ℕ} (lies : Lies value source r) where
+  put-at : (v : ℕ) → v ≡ u → (getD (set starts u (r .start)) v 0 ≡ r .start) × (getD (set counts u (r .count)) v 0 ≡ r .count)
+  put-at v e = rw e (getD-set-same starts u (r .start) 0 (omega (arith, t .starts-long)), getD-set-same counts u (r .count) 0 (omega (arith, t .counts-long)))
+
+  kept-at : (v : ℕ) → v ≢ u → (getD (set starts u (r .start)) v 0 ≡ getD starts v 0) × (getD (set counts u (r .count)) v 0 ≡ getD counts v 0)
+  kept-at v h = (getD-set-other starts u v (r .start) 0 h, getD-set-other counts u v (r .count) 0 h)
+
+  pub value-put : (v : ℕ) → v ≡ u → valueAt source (set starts u (r .start)) (set counts u (r .count)) v ≡ value
+  value-put v e = rw (put-at v e .0, put-at v e .1) (lies .is)
+
+  pub value-kept : (v : ℕ) → v ≢ u → valueAt source (set starts u (r .start)) (set counts u (r .count)) v ≡ valueAt source starts counts v
+  value-kept v h = rw (kept-at v h .0, kept-at v h .1)
+
+  pub table-put : Table source (set starts u (r .start)) (set counts u (r .count))
+  table-put =
+      record {
+        long = t .long;
+        starts-long = length-set starts u (r .start) ∙ t .starts-long;
+        counts-long = length-set counts u (r .count) ∙ t .counts-long;
+        low = λ v. low v (eqb v u) refl;
+        few = λ v. few v (eqb v u) refl;
+      }
+    where
+      low : (v : ℕ) (b : Bool) → eqb v u ≡ b → getD (set starts u (r .start)) v 0 ≤ 100
+      low v true e = rw (put-at v (eqb-true v u e) .0) (lies .low)
+      low v false e = rw (kept-at v (eqb-false v u e) .0) (t .low v)
+
+      few : (v : ℕ) (b : Bool) → eqb v u ≡ b → getD (set counts u (r .count)) v 0 ≤ 32
+      few v true e = rw (put-at v (eqb-true v u e) .1) (lies .few)
+      few v false e = rw (kept-at v (eqb-false v u e) .1) (t .few v)
+
+-- CC BY CCDEF
+
+module _ {source starts counts : List ℕ} (t : Table source starts counts) (cas : List ℕ) where
+  -- no CCDEF: every value stays
+  pub country-kept : any isCCDEF (casOf cas) ≡ false → Has (takenValue (settingsIn source) source cas starts counts) source starts counts
+  unfolding takenValue
+  country-kept d = record { table = t; values = λ v h. rw d (go v (eqb v CC)) }
+    where
+      go : (v : ℕ) (b : Bool) → valueAt source starts counts v ≡ (if b && false then settingsOf (settingsIn source) .country else valueAt source starts counts v)
+      go v true = refl
+      go v false = refl
+
+  -- CCDEF: CC is the default, and any other value stays
+  pub country-put : any isCCDEF (casOf cas) ≡ true → (r : Span) → Lies (digitsOf (part 73 4 source)) source r
+      → Has (takenValue (settingsIn source) source cas starts counts) source (set starts 1 (r .start)) (set counts 1 (r .count))
+  unfolding takenValue settingsOf
+  country-put d r lies = record { table = table-put t 1 (omega arith) r lies; values = λ v h. rw d (go v (eqb v CC) refl) }
+    where
+      go : (v : ℕ) (b : Bool) → eqb v CC ≡ b
+          → valueAt source (set starts 1 (r .start)) (set counts 1 (r .count)) v ≡ (if b && true then digitsOf (part 0 4 (settingsIn source)) else valueAt source starts counts v)
+      go v true e = value-put t 1 (omega arith) r lies v (eqb-true v CC e) ∙ ap digitsOf (sym (part-within 0 4 73 36 source (omega arith)))
+      go v false e = value-kept t 1 (omega arith) r lies v (eqb-false v CC e)
+
+-- THE VALUES BEHIND THOSE THAT CONDITIONING SETS, put in one after the other
+
+-- those of the codes below f are there
+pub record Serving (taken : ℕ → List ℕ) (served : Served) (source starts counts : List ℕ) (f : ℕ) : Type 0 where
+  pub table : Table source starts counts
+  pub values : (v : ℕ) → v < f → valueAt source starts counts v ≡ servedOver (settingsIn source) (lookupIn source) served taken v
+
+pub serving-none : (served : Served) {source starts counts : List ℕ} → Table source starts counts → Serving (valueAt source starts counts) served source starts counts 11
+unfolding servedOver
+serving-none served t = record { table = t; values = λ v h. let few : v ≤ 10 = omega arith in rw (le-leb v 10 few) }
+
+module _ {taken : ℕ → List ℕ} {served : Served} {source starts counts : List ℕ} {f : ℕ} (g : Serving taken served source starts counts f) where
+  pub serving-more : 10 < f → f ≤ 16 → (v : ℕ) → v ≡ f → (r : Span) → Lies (serviceValue (settingsIn source) (lookupIn source) served f) source r
+      → Serving taken served source (set starts v (r .start)) (set counts v (r .count)) (f + 1)
+  unfolding servedOver
+  serving-more behind inside v v-is r lies =
+      rw v-is (record { table = table-put (g .table) f inside r lies; values = λ u h. go u h (eqb u f) refl })
+    where
+      go : (u : ℕ) → u < f + 1 → (b : Bool) → eqb u f ≡ b
+          → valueAt source (set starts f (r .start)) (set counts f (r .count)) u ≡ servedOver (settingsIn source) (lookupIn source) served taken u
+      go u h true e =
+          let u-is : u ≡ f = eqb-true u f e in
+          value-put (g .table) f inside r lies u u-is ∙ rw (u-is, lt-leb f 10 behind)
+      go u h false e =
+          let apart : u ≢ f = eqb-false u f e in
+          value-kept (g .table) f inside r lies u apart ∙ g .values u (omega arith)
+
+  pub serving-all : 17 ≤ f → Has (servedOver (settingsIn source) (lookupIn source) served taken) source starts counts
+  serving-all h = record { table = g .table; values = λ v k. g .values v (omega arith) }
+
+-- over a table that has the values of conditioning
+pub has-made : (source cas starts counts : List ℕ) {starts' counts' starts'' counts'' : List ℕ} (served : Served) → Has (takenValue (settingsIn source) source cas starts counts) source starts' counts'
+    → Has (servedOver (settingsIn source) (lookupIn source) served (valueAt source starts' counts')) source starts'' counts''
+    → Has (valueMade (settingsIn source) source cas starts counts served) source starts'' counts''
+unfolding servedOver
+has-made source cas starts counts {starts'} {counts'} served a b =
+    record { table = b .table; values = λ f h. b .values f h ∙ go f h (leb f 10) }
+  where
+    go : (f : ℕ) → f ≤ 16 → (q : Bool) → (if q then valueAt source starts' counts' f else serviceValue (settingsIn source) (lookupIn source) served f)
+        ≡ (if q then takenValue (settingsIn source) source cas starts counts f else serviceValue (settingsIn source) (lookupIn source) served f)
+    go f h true = a .values f h
+    go f h false = refl
+
+-- WHAT AN FA SENDS
+
+module _ {source starts counts : List ℕ} (t : Table source starts counts) (f : ℕ) where
+  pub sent-lies : {r : Span} → r ≡ placeOf starts counts f → Lies (sentAt source starts counts f) source r
+  unfolding sentAt
+  sent-lies {r} e = subst (λ (x : Span). Lies (sentAt source starts counts f) source x) (sym e) (go (leb f 16))
+    where
+      go : (b : Bool) → Lies (if b then valueAt source starts counts f else []) source (if b then record { start = getD starts f 0; count = getD counts f 0 } else record { start = 0; count = 0 })
+      go true =
+          record {
+            is = refl;
+            count = sym (length-take-le (getD counts f 0) (drop (getD starts f 0) source) (rw length-drop (omega (arith, t .long, t .low f, t .few f))));
+            low = t .low f;
+            few = t .few f;
+          }
+      go false = record { is = refl; count = refl; low = omega arith; few = omega arith }
+
+-- no value has a code above 16
+no-value : (settings lookup : List ℕ) (served : Served) (f : ℕ) → 16 < f → [] ≡ serviceValue settings lookup served f
+unfolding serviceValue
+no-value settings lookup served f h =
+    let past : 6 ≤ f - 11 = omega arith in
+    rw List·getD-eq-default
+
+-- so what a table sends that has the values of all FAs
+pub sent-made : (settings body cas starts counts : List ℕ) (served : Served) {source starts' counts' : List ℕ} → Has (valueMade settings body cas starts counts served) source starts' counts'
+    → (fas : List ℕ) → join (sentAt source starts' counts') (codesOf fas) ≡ outgoingBy settings body cas starts counts served fas
+unfolding sentAt servedOver
+sent-made settings body cas starts counts served {source} {starts'} {counts'} m fas = join-same _ _ (codesOf fas) (λ f t. go f (leb f 16) refl)
+  where
+    go : (f : ℕ) (b : Bool) → leb f 16 ≡ b → (if b then valueAt source starts' counts' f else []) ≡ valueMade settings body cas starts counts served f
+    go f true e = m .values f (leb-true f 16 e)
+    go f false e =
+        let h : 16 < f = leb-false f 16 e in
+        let past : 10 < f = omega arith in
+        no-value settings (lookupIn body) served f h ∙ rw (lt-leb f 10 past)
 
 -- WHAT CONDITIONING MARKS
 
--- a stretch of the number's digits, which begin at place 2 of a source
-marked-value : (source : List ℕ) (n : ℕ) (s : Stretch) (start count : ℕ) → Marks 2 n s start count → part start count source ≡ digitsAt s (digitsIn n source)
-marked-value source n s start count m = go (eqb count 0) refl
+-- a stretch of the number's digits, which begin at place 2 of a body
+marked-value : (body : List ℕ) (n : ℕ) (s : Stretch) (start count : ℕ) → Marks 2 n s start count → part start count body ≡ digitsAt s (digitsIn n body)
+marked-value body n s start count m = go (eqb count 0) refl
   where
-    go : (b : Bool) → eqb count 0 ≡ b → part start count source ≡ digitsAt s (digitsIn n source)
+    go : (b : Bool) → eqb count 0 ≡ b → part start count body ≡ digitsAt s (digitsIn n body)
     go true e =
         let z : count ≡ 0 = eqb-true count 0 e in
         let y : s .count ≡ 0 = sym (m .counted) ∙ z in
         rw (z, y)
-    go false e = rw (m .begins (eqb-false count 0 e), m .counted) (sym (part-within (s .start) (s .count) 2 n source (m .within)))
-
-module _ {source : List ℕ} {n : ℕ} {cas : List ℕ} {prefix : ℕ} (t : Taking source n cas prefix) {starts counts : List ℕ} (m : MarksAll prefix n 2 (casOf cas) starts counts)
-    (starts-long : length starts ≡ 11) (counts-long : length counts ≡ 11) where
-  abbrev country : List ℕ
-  country = settingsOf (settingsIn source) .country
-
-  abbrev valueSet : ℕ → List ℕ
-  valueSet v = valueFrom country prefix (digitsIn n source) (casOf cas) v
-
-  marked : (v : ℕ) → 0 < v → valueAt source starts counts v ≡ digitsAt (stretchOf v prefix (length (digitsIn n source)) (casOf cas)) (digitsIn n source)
-  marked v h =
-      rw (digits-long source n (t .long) (t .few)) (marked-value source n (stretchOf v prefix n (casOf cas)) (getD starts v 0) (getD counts v 0) (m .marks v h))
-
-  -- no CCDEF: every value is a stretch
-  pub places-stretches : any isCCDEF (casOf cas) ≡ false → Places source n cas prefix starts counts
-  places-stretches d =
-      record {
-        table =
-            record {
-              long = t .long;
-              starts-long = starts-long;
-              counts-long = counts-long;
-              low = λ v. omega (arith, m .low v, t .few);
-              few = λ v. omega (arith, m .few v, t .few);
-            };
-        values = λ v h k. marked v h ∙ value-not-default country (digitsIn n source) prefix v (casOf cas) d;
-      }
-
-  -- CCDEF: CC is the default, and any other value a stretch
-  module _ (d : any isCCDEF (casOf cas) ≡ true) (r : Span) (lies : Lies (digitsOf (part 73 4 source)) source r) where
-    default-at : (v : ℕ) → (eqb v 1 ≡ true) → (getD (set starts 1 (r .start)) v 0 ≡ r .start) × (getD (set counts 1 (r .count)) v 0 ≡ r .count)
-    default-at v e =
-        let v-is : v ≡ 1 = eqb-true v 1 e in
-        rw v-is (getD-set-same starts 1 (r .start) 0 (omega arith), getD-set-same counts 1 (r .count) 0 (omega arith))
-
-    other-at : (v : ℕ) → (eqb v 1 ≡ false) → (getD (set starts 1 (r .start)) v 0 ≡ getD starts v 0) × (getD (set counts 1 (r .count)) v 0 ≡ getD counts v 0)
-    other-at v e = (getD-set-other starts 1 v (r .start) 0 (eqb-false v 1 e), getD-set-other counts 1 v (r .count) 0 (eqb-false v 1 e))
-
-    country-is : part (r .start) (r .count) source ≡ country
-    unfolding settingsOf
-    country-is = lies .is ∙ ap digitsOf (sym (part-within 0 4 73 36 source (omega arith)))
-
-    pub places-default : Places source n cas prefix (set starts 1 (r .start)) (set counts 1 (r .count))
-    places-default =
-        record {
-          table =
-              record {
-                long = t .long;
-                starts-long = length-set starts 1 (r .start) ∙ starts-long;
-                counts-long = length-set counts 1 (r .count) ∙ counts-long;
-                low = λ v. low v (eqb v 1) refl;
-                few = λ v. few v (eqb v 1) refl;
-              };
-          values = λ v h k. value v h (eqb v 1) refl;
-        }
-      where
-        low : (v : ℕ) (b : Bool) → eqb v 1 ≡ b → getD (set starts 1 (r .start)) v 0 ≤ 100
-        low v true e = rw (default-at v e .0) (lies .low)
-        low v false e = rw (other-at v e .0) (omega (arith, m .low v, t .few))
-
-        few : (v : ℕ) (b : Bool) → eqb v 1 ≡ b → getD (set counts 1 (r .count)) v 0 ≤ 32
-        few v true e = rw (default-at v e .1) (lies .few)
-        few v false e = rw (other-at v e .1) (omega (arith, m .few v, t .few))
-
-        value : (v : ℕ) → 0 < v → (b : Bool) → eqb v 1 ≡ b → valueAt source (set starts 1 (r .start)) (set counts 1 (r .count)) v ≡ valueSet v
-        value v h true e =
-            rw (default-at v e .0, default-at v e .1) (country-is ∙ value-default country (digitsIn n source) prefix v (casOf cas) (eqb-true v 1 e) d)
-        value v h false e =
-            rw (other-at v e .0, other-at v e .1) (marked v h ∙ value-taken country (digitsIn n source) prefix v (casOf cas) (eqb-false v 1 e))
-
--- WHAT AN FA SENDS
-
-module _ {source starts counts : List ℕ} (t : Table source starts counts) (served : Served) (f : ℕ) where
-  pub lies-placed : f ≤ 10 → Lies (placedValue source starts counts served f) source (record { start = getD starts f 0; count = getD counts f 0 })
-  unfolding placedValue
-  lies-placed h =
-      rw (le-leb f 10 h)
-      (record {
-        is = refl;
-        count = sym (length-take-le (getD counts f 0) (drop (getD starts f 0) source) (rw length-drop (omega (arith, t .long, t .low f, t .few f))));
-        low = t .low f;
-        few = t .few f;
-      })
-
-  pub lies-served : 10 < f → (r : Span) → Lies (serviceValue (settingsIn source) (lookupIn source) served f) source r → Lies (placedValue source starts counts served f) source r
-  unfolding placedValue
-  lies-served h r l = rw (lt-leb f 10 h) l
-
--- THE OUTGOING DIGITS
+    go false e = rw (m .begins (eqb-false count 0 e), m .counted) (sym (part-within (s .start) (s .count) 2 n body (m .within)))
 
 -- no code of a list is 0
 codes-positive : (cs : List ℕ) (f : ℕ) → T (contains f (codesOf cs)) → 0 < f
@@ -152,15 +190,36 @@ codes-positive (c ∷ cs) f t = go (codes-positive cs f) (isZero c) refl t
             omega arith
         pick false q s = later s
 
-pub placed-outgoing : {source : List ℕ} {n : ℕ} {cas : List ℕ} {prefix : ℕ} {starts counts : List ℕ} → Places source n cas prefix starts counts → (served : Served) (fas : List ℕ)
-    → join (placedValue source starts counts served) (codesOf fas) ≡ outgoingIn source n cas prefix served fas
-unfolding placedValue
-placed-outgoing {source} {n} {cas} {prefix} {starts} {counts} p served fas =
-    join-same _ _ (codesOf fas) (λ f t. same f (codes-positive fas f t) (leb f 10) refl)
-    ∙ sym (outgoing-is (settingsIn source) (lookupIn source) (digitsIn n source) cas prefix served fas)
-  where
-    same : (f : ℕ) → 0 < f → (b : Bool) → leb f 10 ≡ b
-        → placedValue source starts counts served f ≡ valueSent (settingsIn source) (lookupIn source) (digitsIn n source) cas prefix served f
-    same f h true e =
-        rw e (p .values f h (leb-true f 10 e) ∙ sent-conditioned (settingsIn source) (lookupIn source) (digitsIn n source) cas prefix served f (leb-true f 10 e))
-    same f h false e = rw e (sent-served (settingsIn source) (lookupIn source) (digitsIn n source) cas prefix served f (leb-false f 10 e))
+-- what conditioning marks is within the digits of a body
+pub marks-formattable : (settings body : List ℕ) {xs : List CA} {starts counts : List ℕ} {prefix n : ℕ} → length settings ≡ 36 → length body ≡ 73 → n ≤ 32
+    → length starts ≡ 17 → length counts ≡ 17 → MarksAll prefix n 2 xs starts counts → Formattable settings body starts counts
+marks-formattable settings body s long few a b m =
+    record {
+      settings-long = s;
+      body-long = long;
+      starts-long = a;
+      counts-long = b;
+      low = λ v. omega (arith, m .low v);
+      few = λ v. omega (arith, m .few v);
+    }
+
+module _ (settings body cas : List ℕ) {starts counts : List ℕ} {prefix n : ℕ} (long : length body ≡ 73) (few : n ≤ 32) (m : MarksAll prefix n 2 (casOf cas) starts counts) where
+  -- the values are those of document 01
+  taken-is : (v : ℕ) → 0 < v → takenValue settings body cas starts counts v ≡ valueFrom (settingsOf settings .country) prefix (digitsIn n body) (casOf cas) v
+  unfolding takenValue valueFrom
+  taken-is v h = go (eqb v CC && any isCCDEF (casOf cas))
+    where
+      go : (b : Bool) → (if b then settingsOf settings .country else valueAt body starts counts v)
+          ≡ (if b then settingsOf settings .country else digitsAt (stretchOf v prefix (length (digitsIn n body)) (casOf cas)) (digitsIn n body))
+      go true = refl
+      go false = rw (digits-long body n (omega arith)) (marked-value body n (stretchOf v prefix n (casOf cas)) (getD starts v 0) (getD counts v 0) (m .marks v h))
+
+  pub marked-outgoing : (served : Served) (fas : List ℕ) → outgoingBy settings body cas starts counts served fas ≡ outgoing settings (lookupIn body) (digitsIn n body) cas prefix served fas
+  unfolding servedOver
+  marked-outgoing served fas =
+      join-same _ _ (codesOf fas) (λ f t. go f (codes-positive fas f t) (leb f 10) refl) ∙ sym (outgoing-is settings (lookupIn body) (digitsIn n body) cas prefix served fas)
+    where
+      go : (f : ℕ) → 0 < f → (b : Bool) → leb f 10 ≡ b
+          → (if b then takenValue settings body cas starts counts f else serviceValue settings (lookupIn body) served f) ≡ valueSent settings (lookupIn body) (digitsIn n body) cas prefix served f
+      go f h true e = taken-is f h ∙ sent-conditioned settings (lookupIn body) (digitsIn n body) cas prefix served f (leb-true f 10 e)
+      go f h false e = sent-served settings (lookupIn body) (digitsIn n body) cas prefix served f (leb-false f 10 e)

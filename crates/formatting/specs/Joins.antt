@@ -13,7 +13,7 @@ use Rattle.meaning.specs.Conditioning.{short, valueFrom, conditionedFrom}
 use Rattle.meaning.specs.Services.{valueToSend, join}
 use Rattle.services.specs.declared.Served.{Served}
 use Rattle.services.specs.Stages.{stageOf}
-use Rattle.formatting.specs.Sources.{settingsIn, lookupIn, digitsIn}
+use Rattle.formatting.specs.Tables.{valueMade}
 
 -- document 01's outgoing digits: "the FA values joined in order", by the stage that these FAs make
 unfoldable pub outgoing : List ℕ → List ℕ → List ℕ → List ℕ → ℕ → Served → List ℕ → List ℕ
@@ -30,9 +30,9 @@ conditioned settings digits cas prefix = conditionedFrom (casOf cas) (valueFrom 
 unfoldable pub conditionedCodes : List CA → List ℕ
 conditionedCodes xs = if isSet ZN xs then (ZN ∷ []) else if isSet DN xs then (CC ∷ DN ∷ []) else (CC ∷ AC ∷ SN ∷ [])
 
--- the outgoing digits for the number, the lookup and the settings that a source has
-abbrev pub outgoingIn : List ℕ → ℕ → List ℕ → ℕ → Served → List ℕ → List ℕ
-outgoingIn source n cas prefix served fas = outgoing (settingsIn source) (lookupIn source) (digitsIn n source) cas prefix served fas
+-- the same joined by a table of what conditioning took of the number's digits
+abbrev pub outgoingBy : List ℕ → List ℕ → List ℕ → List ℕ → List ℕ → Served → List ℕ → List ℕ
+outgoingBy settings body cas starts counts served fas = join (valueMade settings body cas starts counts served) (codesOf fas)
 
 -- the settings, and digits that are enough for the conditioning actions
 pub record Conditionable (settings digits cas : List ℕ) (prefix : ℕ) : Type 0 where

@@ -1,4 +1,4 @@
 pub mod Values
 pub mod Sources
-pub mod Joins
 pub mod Tables
+pub mod Joins

@@ -1,27 +1,23 @@
--- A table of places in a source: of each value that conditioning sets, where it begins and how many digits it has.
-use Prim.Native.Nat.{ℕ, _≤_, _<_}
+-- A table of places: of the value of each FA, where it begins and how many digits it has.
+use Prim.Native.Nat.{ℕ, _≤_}
 use mathlib.Core.Path.{_≡_}
-use mathlib.Core.List.{List}
+use mathlib.Core.Bool.{_&&_}
+use mathlib.Core.List.{List, []}
 use lib.ListN.{length, getD}
-use lib.Dec.{leb}
-use Rattle.meaning.specs.Basics.{if_then_else_, part}
+use lib.Dec.{leb, eqb}
+use Rattle.meaning.specs.Basics.{if_then_else_, any, part}
 use Rattle.meaning.specs.Settings.{settingsOf}
-use Rattle.meaning.specs.Actions.{casOf}
-use Rattle.meaning.specs.Conditioning.{valueFrom}
+use Rattle.meaning.specs.Actions.{CC, isCCDEF, casOf}
+use Rattle.meaning.specs.declared.Span.{Span}
 use Rattle.services.specs.declared.Served.{Served}
 use Rattle.formatting.specs.Values.{serviceValue}
-use Rattle.formatting.specs.Sources.{settingsIn, lookupIn, digitsIn}
-
--- a column of a table in which nothing stands yet
-pub record Blank (xs : List ℕ) : Type 0 where
-  pub long : length xs ≡ 11
-  pub none : (v : ℕ) → getD xs v 0 ≡ 0
+use Rattle.formatting.specs.Sources.{lookupIn}
 
 -- each place has room behind it for the two blocks that a value may take
 pub record Table (source starts counts : List ℕ) : Type 0 where
   pub long : length source ≡ 144
-  pub starts-long : length starts ≡ 11
-  pub counts-long : length counts ≡ 11
+  pub starts-long : length starts ≡ 17
+  pub counts-long : length counts ≡ 17
   pub low : (v : ℕ) → getD starts v 0 ≤ 100
   pub few : (v : ℕ) → getD counts v 0 ≤ 32
 
@@ -29,13 +25,30 @@ pub record Table (source starts counts : List ℕ) : Type 0 where
 abbrev pub valueAt : List ℕ → List ℕ → List ℕ → ℕ → List ℕ
 valueAt source starts counts v = part (getD starts v 0) (getD counts v 0) source
 
--- the value of an FA: by the table, or of the lookup and the settings
-unfoldable pub placedValue : List ℕ → List ℕ → List ℕ → Served → ℕ → List ℕ
-placedValue source starts counts served f =
-    if leb f 10 then valueAt source starts counts f else serviceValue (settingsIn source) (lookupIn source) served f
-
--- a table that has every value as document 01 sets it
-pub record Places (source : List ℕ) (n : ℕ) (cas : List ℕ) (prefix : ℕ) (starts counts : List ℕ) : Type 0 where
+-- a table that has a value for each FA
+pub record Has (value : ℕ → List ℕ) (source starts counts : List ℕ) : Type 0 where
   pub table : Table source starts counts
-  pub values : (v : ℕ) → 0 < v → v ≤ 10
-      → valueAt source starts counts v ≡ valueFrom (settingsOf (settingsIn source) .country) prefix (digitsIn n source) (casOf cas) v
+  pub values : (f : ℕ) → f ≤ 16 → valueAt source starts counts f ≡ value f
+
+-- where a table has the value of an FA; there is none behind the last
+abbrev pub placeOf : List ℕ → List ℕ → ℕ → Span
+placeOf starts counts f = if leb f 16 then record { start = getD starts f 0; count = getD counts f 0 } else record { start = 0; count = 0 }
+
+-- what is sent for an FA
+unfoldable pub sentAt : List ℕ → List ℕ → List ℕ → ℕ → List ℕ
+sentAt source starts counts f = if leb f 16 then valueAt source starts counts f else []
+
+-- THE VALUES, over bytes that have the number, its lookup and the settings, and a table of what conditioning took of the number
+
+-- "CCDEF takes none and sets CC to the default"
+unfoldable pub takenValue : List ℕ → List ℕ → List ℕ → List ℕ → List ℕ → ℕ → List ℕ
+takenValue settings source cas starts counts v =
+    if eqb v CC && any isCCDEF (casOf cas) then settingsOf settings .country else valueAt source starts counts v
+
+-- the values of the service actions and the delimiters are those behind the last that conditioning sets
+unfoldable pub servedOver : List ℕ → List ℕ → Served → (ℕ → List ℕ) → ℕ → List ℕ
+servedOver settings lookup served taken f = if leb f 10 then taken f else serviceValue settings lookup served f
+
+-- so the value of each FA
+abbrev pub valueMade : List ℕ → List ℕ → List ℕ → List ℕ → List ℕ → Served → ℕ → List ℕ
+valueMade settings source cas starts counts served = servedOver settings (lookupIn source) served (takenValue settings source cas starts counts)

@@ -5,8 +5,6 @@ use actions::is_set;
 use blocks::copy_sixteen;
 use buffer::copy;
 use buffer::wide;
-use conditioning::PLACES;
-use conditioning::mark_spans;
 use conditioning::stretch_in;
 use meaning::Span;
 use services::Served;
@@ -19,9 +17,9 @@ ghost use Rattle.meaning.specs.Actions.{casOf, codesOf};
 ghost use Rattle.meaning.specs.Conditioning.{valueFrom};
 ghost use Rattle.meaning.specs.Services.{join};
 ghost use Rattle.formatting.specs.Values.{digitsIf, rnOf, spOf, serviceValue};
-ghost use Rattle.formatting.specs.Sources.{settingsIn, lookupIn, digitsIn, Formattable, Held, Taking, Lies};
-ghost use Rattle.formatting.specs.Tables.{Blank, Table, Places, placedValue};
-ghost use Rattle.formatting.specs.Joins.{outgoing, conditioned, conditionedCodes, outgoingIn, Conditionable, Writes, JoinsInto};
+ghost use Rattle.formatting.specs.Sources.{settingsIn, lookupIn, Formattable, Held, Lies};
+ghost use Rattle.formatting.specs.Tables.{Table, valueAt, Has, placeOf, sentAt, takenValue, servedOver, valueMade};
+ghost use Rattle.formatting.specs.Joins.{conditioned, conditionedCodes, outgoingBy, Conditionable, Writes, JoinsInto};
 
 const CC: u8 = 1;
 
@@ -44,9 +42,6 @@ const GRN: u8 = 14;
 const DELIMITER_A: u8 = 15;
 
 const DELIMITER_B: u8 = 16;
-
-// The last value that conditioning sets.
-const LAST_CONDITIONED: u8 = 10;
 
 // The conditioning code CCDEF.
 const CCDEF: u8 = 15;
@@ -153,44 +148,60 @@ fn service_value(source: &[u8], served: Served, f: u8) -> Span
     }
 }
 
-// A TABLE of where the values that conditioning sets lie
+// A TABLE of where the value of each formatting action lies. Conditioning has marked the values that it took of the number
 
 // The place of CC in a table: its number.
 const CC_PLACE: usize = 1;
 
-// Makes the table of a number of n digits: CC by CCDEF is the default country code, any other value the stretch of the number that it covers.
-fn place_values(
-    source: &[u8],
-    n: usize,
-    cas: &[u8],
-    prefix: usize,
-    starts: &mut [usize],
-    counts: &mut [usize],
-)
-    requires { ⌜ Taking (now source) n (now cas) prefix × Blank (now starts) × Blank (now counts) ⌝ }
-    ensures { λ _. ⌜ Places (now (source .entry)) n (now (cas .entry)) prefix (now (starts .exit)) (now (counts .exit)) ⌝ }
+// CC by CCDEF is the default country code.
+fn place_country(source: &[u8], cas: &[u8], starts: &mut [u8], counts: &mut [u8])
+    requires { ⌜ Table (now source) (now starts) (now counts) ⌝ }
+    ensures { λ _. ⌜ Has (takenValue (settingsIn (now (source .entry))) (now (source .entry)) (now (cas .entry)) (now (starts .entry)) (now (counts .entry))) (now (source .entry)) (now (starts .exit)) (now (counts .exit)) ⌝ }
 {
-    mark_spans(cas, prefix, n, DIGITS, starts, counts);
     if has_code(cas, CCDEF) {
         let country = string_at(source, COUNTRY, 3);
-        starts[CC_PLACE] = country.start;
-        counts[CC_PLACE] = country.count;
+        starts[CC_PLACE] = country.start as u8;
+        counts[CC_PLACE] = country.count as u8;
     }
 }
 
-// The value that a formatting action sends.
-fn value_to_send(source: &[u8], starts: &[usize], counts: &[usize], served: Served, f: u8) -> Span
+// The values behind those that conditioning sets.
+fn place_services(source: &[u8], served: Served, starts: &mut [u8], counts: &mut [u8])
     requires { ⌜ Table (now source) (now starts) (now counts) ⌝ }
-    ensures { λ r. ⌜ Lies (placedValue (now (source .entry)) (now (starts .entry)) (now (counts .entry)) served f) (now (source .entry)) r ⌝ }
+    ensures { λ _. ⌜ Has (servedOver (settingsIn (now (source .entry))) (lookupIn (now (source .entry))) served (valueAt (now (source .entry)) (now (starts .entry)) (now (counts .entry)))) (now (source .entry)) (now (starts .exit)) (now (counts .exit)) ⌝ }
 {
-    if f <= LAST_CONDITIONED {
+    let mut f: u8 = RN;
+    while f <= DELIMITER_B {
+        let value = service_value(source, served, f);
         let v = wide(f);
-        return Span {
-            start: starts[v],
-            count: counts[v],
-        };
+        starts[v] = value.start as u8;
+        counts[v] = value.count as u8;
+        f += 1;
     }
-    service_value(source, served, f)
+}
+
+// Where the value of each formatting action lies.
+fn place_values(source: &[u8], cas: &[u8], served: Served, starts: &mut [u8], counts: &mut [u8])
+    requires { ⌜ Table (now source) (now starts) (now counts) ⌝ }
+    ensures { λ _. ⌜ Has (valueMade (settingsIn (now (source .entry))) (now (source .entry)) (now (cas .entry)) (now (starts .entry)) (now (counts .entry)) served) (now (source .entry)) (now (starts .exit)) (now (counts .exit)) ⌝ }
+{
+    place_country(source, cas, starts, counts);
+    place_services(source, served, starts, counts);
+}
+
+// Where the value that a formatting action sends lies.
+fn value_to_send(starts: &[u8], counts: &[u8], f: u8) -> Span
+    requires { ⌜ (length (now starts) ≡ 17) × (length (now counts) ≡ 17) ⌝ }
+    ensures { λ r. ⌜ r ≡ placeOf (now (starts .entry)) (now (counts .entry)) f ⌝ }
+{
+    if DELIMITER_B < f {
+        return Span { start: 0, count: 0 };
+    }
+    let v = wide(f);
+    Span {
+        start: wide(starts[v]),
+        count: wide(counts[v]),
+    }
 }
 
 // JOINING
@@ -212,15 +223,14 @@ fn put_value(source: &[u8], value: Span, out: &mut [u8])
 // one more than `most` where they have more.
 fn join_placed(
     source: &[u8],
-    starts: &[usize],
-    counts: &[usize],
-    served: Served,
+    starts: &[u8],
+    counts: &[u8],
     fas: &[u8],
     most: usize,
     out: &mut [u8],
 ) -> usize
     requires { ⌜ Table (now source) (now starts) (now counts) × (most ≤ 35) × (most + 32 ≤ length (now out)) ⌝ }
-    ensures { λ r. ⌜ JoinsInto (join (placedValue (now (source .entry)) (now (starts .entry)) (now (counts .entry)) served) (codesOf (now (fas .entry)))) most (now (out .exit)) r ⌝ }
+    ensures { λ r. ⌜ JoinsInto (join (sentAt (now (source .entry)) (now (starts .entry)) (now (counts .entry))) (codesOf (now (fas .entry)))) most (now (out .exit)) r ⌝ }
 {
     let mut end: usize = 0;
     let mut i = 0;
@@ -229,7 +239,7 @@ fn join_placed(
         if f == 0 {
             return end;
         }
-        let value = value_to_send(source, starts, counts, served, f);
+        let value = value_to_send(starts, counts, f);
         let count = value.count;
         if most < end + count {
             return most + 1;
@@ -240,46 +250,44 @@ fn join_placed(
     }
 }
 
-// The same by the table of a number of n digits, which is made here.
+// The same by the table of a source that is whole but for the values of the service actions and the delimiters, and CC by CCDEF.
 fn join_values(
     source: &[u8],
-    n: usize,
     cas: &[u8],
-    prefix: usize,
     served: Served,
     fas: &[u8],
+    starts: &mut [u8],
+    counts: &mut [u8],
     most: usize,
     out: &mut [u8],
 ) -> usize
-    requires { ⌜ Taking (now source) n (now cas) prefix × (most ≤ 35) × (most + 32 ≤ length (now out)) ⌝ }
-    ensures { λ r. ⌜ JoinsInto (outgoingIn (now (source .entry)) n (now (cas .entry)) prefix served (now (fas .entry))) most (now (out .exit)) r ⌝ }
+    requires { ⌜ Table (now source) (now starts) (now counts) × (most ≤ 35) × (most + 32 ≤ length (now out)) ⌝ }
+    ensures { λ r. ⌜ JoinsInto (outgoingBy (settingsIn (now (source .entry))) (now (source .entry)) (now (cas .entry)) (now (starts .entry)) (now (counts .entry)) served (now (fas .entry))) most (now (out .exit)) r ⌝ }
 {
-    let mut starts = [0usize; PLACES];
-    let mut counts = [0usize; PLACES];
-    place_values(source, n, cas, prefix, &mut starts, &mut counts);
-    join_placed(source, &starts, &counts, served, fas, most, out)
+    place_values(source, cas, served, starts, counts);
+    join_placed(source, starts, counts, fas, most, out)
 }
 
-// The outgoing digits of a number, of whose body n digits are used: the values of the formatting actions, each directly behind the one before, at the front of a
-// buffer that has room for `most` digits and two blocks; one more than `most` where they have more.
+// The outgoing digits of a number whose digits conditioning has marked: the values of the formatting actions, each directly behind the one before, at the front of a
+// buffer that has room for `most` digits and two blocks; one more than `most` where they have more. The table is used up.
 pub fn join_outgoing(
     settings: &[u8],
     body: &[u8],
-    n: usize,
     cas: &[u8],
-    prefix: usize,
     served: Served,
     fas: &[u8],
+    starts: &mut [u8],
+    counts: &mut [u8],
     most: usize,
     out: &mut [u8],
 ) -> usize
-    requires { ⌜ Formattable (now settings) (now body) n (now cas) prefix × (most ≤ 35) × (most + 32 ≤ length (now out)) ⌝ }
-    ensures { λ r. ⌜ JoinsInto (outgoing (now (settings .entry)) (lookupIn (now (body .entry))) (digitsIn n (now (body .entry))) (now (cas .entry)) prefix served (now (fas .entry))) most (now (out .exit)) r ⌝ }
+    requires { ⌜ Formattable (now settings) (now body) (now starts) (now counts) × (most ≤ 35) × (most + 32 ≤ length (now out)) ⌝ }
+    ensures { λ r. ⌜ JoinsInto (outgoingBy (now (settings .entry)) (now (body .entry)) (now (cas .entry)) (now (starts .entry)) (now (counts .entry)) served (now (fas .entry))) most (now (out .exit)) r ⌝ }
 {
     let mut source = [0u8; SOURCE_BYTES];
     copy(&mut source, &body[0..SETTINGS]);
     copy(&mut source[SETTINGS..], &settings[0..SETTINGS_BYTES]);
-    join_values(&source, n, cas, prefix, served, fas, most, out)
+    join_values(&source, cas, served, fas, starts, counts, most, out)
 }
 
 // THE CONDITIONED NUMBER

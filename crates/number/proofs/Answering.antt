@@ -6,7 +6,6 @@ use mathlib.Core.List.{List, []}
 use native.Mathlib.Nat.{sub-zero}
 use native.Mathlib.Omega.{arith}
 use lib.ListN.{length, take, drop, getD, length-take, length-drop}
-use lib.Seq.{length-take-le}
 use borrow.Author.Tests.{le-leb, lt-leb}
 use Rattle.meaning.specs.Basics.{isEmpty, writtenOver}
 use Rattle.meaning.specs.Refusals.{SHORT, LONG}
@@ -21,10 +20,10 @@ use Rattle.meaning.specs.declared.Answered.{Answered}
 use Rattle.services.specs.declared.Served.{Served}
 use Rattle.services.specs.Stages.{stageAfter, ServedAnew, Serviceable}
 use Rattle.services.proofs.Going.{response-after, withheld-after, responded-after}
-use Rattle.formatting.specs.Sources.{Formattable}
 use Rattle.formatting.specs.Joins.{outgoing, JoinsInto}
 use Rattle.formatting.proofs.Joining.{outgoing-after, joined-count, joined-few, joined-many}
-use Rattle.number.specs.Answering.{countedAs, servedBy, finished, answerWith, givenBy, lookupOfBody, digitsOfBody, Answerable}
+use Rattle.formatting.specs.Sources.{lookupIn}
+use Rattle.number.specs.Answering.{countedAs, servedBy, finished, answerWith, givenBy, Answerable}
 use Rattle.number.specs.Promises.{HoldsAnswer, GivesAnswer}
 
 -- AN ANSWER GIVEN
@@ -144,13 +143,15 @@ module _ (settings lookup : List ℕ) (class : ℕ) (digits : List ℕ) (prefix 
       holds-served e sas fas sas-is fas-is s done after r g =
           subst (λ (x : Answer). HoldsAnswer x after r) (sym (given-served e sas fas sas-is fas-is s done)) g
 
-pub digits-long : (body : List ℕ) (n : ℕ) → length body ≡ 73 → n ≤ 32 → length (digitsOfBody n body) ≡ n
-digits-long body n long few = length-take-le n (drop 2 body) (rw length-drop (omega arith))
+-- the outgoing digits by another name
+pub holds-digits : (incoming class : ℕ) (s : Served) {ds es : List ℕ} (after : List ℕ) (r : Answered) → ds ≡ es
+    → HoldsAnswer (finished incoming class s ds) after r → HoldsAnswer (finished incoming class s es) after r
+holds-digits incoming class s after r e g = subst (λ (x : List ℕ). HoldsAnswer (finished incoming class s x) after r) e g
 
--- WHAT THE SERVICE STAGE AND FORMATTING ASK
+-- WHAT THE SERVICE STAGE ASKS
 
 module _ (settings body : List ℕ) (n : ℕ) (content out : List ℕ) (a : Answerable settings body n content out) where
-  pub serviceable : (sas lookup : List ℕ) → sas ≡ saBytes content → lookup ≡ lookupOfBody body → Serviceable sas settings lookup
+  pub serviceable : (sas lookup : List ℕ) → sas ≡ saBytes content → lookup ≡ lookupIn body → Serviceable sas settings lookup
   serviceable sas lookup e f =
       record {
         few = rw e (rw (length-take 8 (drop 25 content)) (omega arith));
@@ -158,9 +159,6 @@ module _ (settings body : List ℕ) (n : ℕ) (content out : List ℕ) (a : Answ
         lookup-long = rw (f, length-take, length-drop) (omega (arith, a .body-long));
         kind = rw f (a .kind);
       }
-
-  pub formattable : (cas : List ℕ) (prefix : ℕ) → short prefix n (casOf cas) ≡ false → Formattable settings body n cas prefix
-  formattable cas prefix enough = record { settings-long = a .settings-long; body-long = a .body-long; few = a .few; enough = enough }
 
 -- the rule's filter is needed for its prefix's length alone
 pub answer-with : (settings : Settings) (n : Number) (f : Filter) (s : ActionSet) (prefix : ℕ) → prefix ≡ length (f .prefix) → answerBy settings n f s ≡ answerWith settings n prefix s

@@ -25,7 +25,8 @@ use Rattle.plan.specs.Layout.{planOf}
 use Rattle.plan.proofs.ReadLaws.{sound-is}
 use Rattle.choice.specs.Chosen.{Prefix, NamedContent}
 use Rattle.choice.proofs.Chosen.{rulePlaced, ChosenAt, chosen-at, none-chosen}
-use Rattle.number.specs.Answering.{givenBy, digitsOfBody, Answerable, Digits, Known, Holdable, Placed}
+use Rattle.formatting.specs.Sources.{digitsIn}
+use Rattle.number.specs.Answering.{givenBy, Answerable, Digits, Known, Holdable, Placed}
 use Rattle.number.specs.Promises.{HoldsAnswer}
 use Rattle.number.proofs.Answering.{holds-unserved, answer-with}
 
@@ -60,7 +61,7 @@ module _ (body : List ℕ) (whole : length body ≡ 73) (range : numberInRange b
 
 module _ (m body out : List ℕ) (n k : ℕ) (placed : Placed m body n k out) where
   abbrev ds : List ℕ
-  ds = digitsOfBody n body
+  ds = digitsIn n body
 
   known : Known m body
   known = placed .holdable .known

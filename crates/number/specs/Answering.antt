@@ -6,7 +6,7 @@ use mathlib.Core.List.{List, []}
 use mathlib.Core.Option.{some}
 use lib.ListN.{length, getD}
 use lib.Dec.{leb}
-use Rattle.meaning.specs.Basics.{if_then_else_, isEmpty, part}
+use Rattle.meaning.specs.Basics.{if_then_else_, isEmpty}
 use Rattle.meaning.specs.Refusals.{SHORT, LONG}
 use Rattle.meaning.specs.Settings.{Settings, Number, settingsOf, lookupOf, numberOf, numberInRange}
 use Rattle.meaning.specs.Rules.{chosenPlace}
@@ -16,6 +16,7 @@ use Rattle.meaning.specs.Services.{Stage, atStart, serve, valueToSend, join}
 use Rattle.meaning.specs.Answer.{ESCAPED, RESPONDED, UNCHANGED, FORMATTED, Answer, refused, unserved, outgoingClass, afterServices}
 use Rattle.meaning.specs.declared.Answered.{Answered}
 use Rattle.services.specs.declared.Served.{Served}
+use Rattle.formatting.specs.Sources.{lookupIn, digitsIn}
 use Rattle.plan.specs.Layout.{planOf}
 use Rattle.plan.specs.State.{soundOf}
 
@@ -50,18 +51,11 @@ abbrev pub givenBy : List ℕ → List ℕ → ℕ → List ℕ → ℕ → List
 givenBy settings lookup class digits prefix content =
     answerWith (settingsOf settings) (record { class = class; digits = digits; lookup = lookupOf lookup }) prefix (actionsOf content)
 
--- what a body has, as a source made of it has it: its lookup, and the n digits of its number
-abbrev pub lookupOfBody : List ℕ → List ℕ
-lookupOfBody body = part 34 39 body
-
-abbrev pub digitsOfBody : ℕ → List ℕ → List ℕ
-digitsOfBody n body = part 2 n body
-
 -- the settings, a body of n digits with its lookup's kind in range, a set's content, and room
 pub record Answerable (settings body : List ℕ) (n : ℕ) (content out : List ℕ) : Type 0 where
   pub settings-long : length settings ≡ 36
   pub body-long : length body ≡ 73
-  pub kind : getD (lookupOfBody body) 0 0 ≤ 3
+  pub kind : getD (lookupIn body) 0 0 ≤ 3
   pub few : n ≤ 32
   pub content-long : length content ≡ 45
   pub room : 64 ≤ length out
@@ -69,7 +63,7 @@ pub record Answerable (settings body : List ℕ) (n : ℕ) (content out : List �
 -- ds are the digits of a body
 pub record Digits (body ds : List ℕ) : Type 0 where
   pub is : ds ≡ numberOf body .digits
-  pub from : digitsOfBody (length ds) body ≡ ds
+  pub from : digitsIn (length ds) body ≡ ds
   pub few : length ds ≤ 32
 
 -- a sound plan, and a number's body in range
@@ -91,6 +85,6 @@ pub record Holdable (m body out : List ℕ) : Type 0 where
 -- and the rule chosen, at place k, for the n digits of the body
 pub record Placed (m body : List ℕ) (n k : ℕ) (out : List ℕ) : Type 0 where
   pub holdable : Holdable m body out
-  pub digits : digitsOfBody n body ≡ numberOf body .digits
+  pub digits : digitsIn n body ≡ numberOf body .digits
   pub few : n ≤ 32
-  pub place : chosenPlace (getD body 0 0) (digitsOfBody n body) (planOf m .rules) ≡ some k
+  pub place : chosenPlace (getD body 0 0) (digitsIn n body) (planOf m .rules) ≡ some k

@@ -2,6 +2,8 @@
 use choice::choose;
 use choice::content_at;
 use choice::prefix_at;
+use conditioning::PLACES;
+use conditioning::mark_spans;
 use formatting::join_outgoing;
 use services::Served;
 ghost use mathlib.Core.Path.{_≡_};
@@ -11,10 +13,10 @@ ghost use lib.ListN.{length, getD};
 ghost use Rattle.meaning.specs.Settings.{numberOf, numberInRange};
 ghost use Rattle.meaning.specs.Answer.{refused, unserved, outgoingClass, answerOf};
 ghost use Rattle.meaning.specs.Answers.{answeredAs};
-ghost use Rattle.formatting.specs.Sources.{Formattable};
-ghost use Rattle.formatting.specs.Joins.{outgoing};
+ghost use Rattle.formatting.specs.Sources.{lookupIn, digitsIn, Formattable};
+ghost use Rattle.formatting.specs.Joins.{outgoingBy};
 ghost use Rattle.plan.specs.Layout.{planOf};
-ghost use Rattle.number.specs.Answering.{countedAs, finished, givenBy, lookupOfBody, digitsOfBody, Answerable, Digits, Ready, Holdable, Placed};
+ghost use Rattle.number.specs.Answering.{countedAs, finished, givenBy, Answerable, Digits, Ready, Holdable, Placed};
 ghost use Rattle.number.specs.Promises.{HoldsAnswer, GivesAnswer, AnswerPromise};
 use meaning::Answered;
 use meaning::Chosen;
@@ -124,22 +126,22 @@ fn outgoing_class(set: u8, incoming: u8) -> u8
     }
 }
 
-// What follows the service actions: a response, formatting withheld, or the outgoing digits, unless they are too many. `class` is the outgoing one, n how many
-// digits the number has.
+// What follows the service actions: a response, formatting withheld, or the outgoing digits, unless they are too many. `class` is the outgoing one; the table has
+// what conditioning took of the number.
 fn finish(
     settings: &[u8],
     body: &[u8],
-    n: usize,
     cas: &[u8],
-    prefix: usize,
     s: Served,
     fas: &[u8],
+    starts: &mut [u8],
+    counts: &mut [u8],
     incoming: u8,
     class: u8,
     out: &mut [u8],
 ) -> Answered
-    requires { ⌜ Formattable (now settings) (now body) n (now cas) prefix × (64 ≤ length (now out)) ⌝ }
-    ensures { λ r. ⌜ HoldsAnswer (finished incoming class s (outgoing (now (settings .entry)) (lookupOfBody (now (body .entry))) (digitsOfBody n (now (body .entry))) (now (cas .entry)) prefix s (now (fas .entry)))) (now (out .exit)) r ⌝ }
+    requires { ⌜ Formattable (now settings) (now body) (now starts) (now counts) × (64 ≤ length (now out)) ⌝ }
+    ensures { λ r. ⌜ HoldsAnswer (finished incoming class s (outgoingBy (now (settings .entry)) (now (body .entry)) (now (cas .entry)) (now (starts .entry)) (now (counts .entry)) s (now (fas .entry)))) (now (out .exit)) r ⌝ }
 {
     if CONNECT <= s.response {
         return served(RESPONDED, incoming, s, 0);
@@ -147,7 +149,7 @@ fn finish(
     if s.withheld {
         return served(UNCHANGED, incoming, s, 0);
     }
-    let written = join_outgoing(settings, body, n, cas, prefix, s, fas, MOST, out);
+    let written = join_outgoing(settings, body, cas, s, fas, starts, counts, MOST, out);
     if MOST < written {
         return refused(LONG);
     }
@@ -164,7 +166,7 @@ fn answer_by(
     out: &mut [u8],
 ) -> Answered
     requires { ⌜ Answerable (now settings) (now body) n (now content) (now out) ⌝ }
-    ensures { λ r. ⌜ HoldsAnswer (givenBy (now (settings .entry)) (lookupOfBody (now (body .entry))) (getD (now (body .entry)) 0 0) (digitsOfBody n (now (body .entry))) prefix (now (content .entry))) (now (out .exit)) r ⌝ }
+    ensures { λ r. ⌜ HoldsAnswer (givenBy (now (settings .entry)) (lookupIn (now (body .entry))) (getD (now (body .entry)) 0 0) (digitsIn n (now (body .entry))) prefix (now (content .entry))) (now (out .exit)) r ⌝ }
 {
     let class = body[0];
     let cas = ranges::cas_of(content);
@@ -172,12 +174,25 @@ fn answer_by(
     if actions::no_conditioning(cas) {
         return unserved(ESCAPED, sent);
     }
-    if conditioning::is_short(cas, prefix, n) {
+    let mut starts = [0u8; PLACES];
+    let mut counts = [0u8; PLACES];
+    if mark_spans(cas, prefix, n, DIGITS, &mut starts, &mut counts) {
         return refused(SHORT);
     }
     let s = services::service_stage(ranges::sas_of(content), settings, &body[LOOKUP..BODY]);
     let fas = ranges::fas_of(content);
-    finish(settings, body, n, cas, prefix, s, fas, class, sent, out)
+    finish(
+        settings,
+        body,
+        cas,
+        s,
+        fas,
+        &mut starts,
+        &mut counts,
+        class,
+        sent,
+        out,
+    )
 }
 
 // The digits of a body in range.

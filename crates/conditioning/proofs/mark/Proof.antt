@@ -6,9 +6,6 @@ use borrow.Author.Needs.{needs}
 use Rattle.conditioning.proofs.mark.Statement.{statement}
 use Rattle.conditioning.proofs.mark.Tie as tie
 
-mul-if1 : tie.Need-mul-if1
-mul-if1 c = search needs
-
 slice-read-if1 : tie.Need-slice-read-if1
 slice-read-if1 c = search needs
 
@@ -17,14 +14,14 @@ returns c =
     let marked : getD (c .before .before .args .starts .now) (c .before .before .args .v) 0 ≢ 0 = c .if1 .taken in
     record { new = λ z. absurd (marked z); kept = λ h. (refl, refl) }
 
-mul-starts : tie.Need-mul-starts
-mul-starts c = search needs
+cast-starts : tie.Need-cast-starts
+cast-starts c = search needs
 
 slice-write-starts : tie.Need-slice-write-starts
 slice-write-starts c = search needs
 
-mul-counts : tie.Need-mul-counts
-mul-counts c = search needs
+cast-counts : tie.Need-cast-counts
+cast-counts c = search needs
 
 slice-write-counts : tie.Need-slice-write-counts
 slice-write-counts c = search needs
@@ -44,12 +41,11 @@ pub mark-spec : {M : Type 1} → statement M
 mark-spec =
     tie.close
     (tie.spec
-    mul-if1
     slice-read-if1
     returns
-    mul-starts
+    cast-starts
     slice-write-starts
-    mul-counts
+    cast-counts
     slice-write-counts
     same-length
     same-length-2

@@ -1,6 +1,6 @@
 -- The values of the source that was made.
 use mathlib.Core.Path.{sym}
-use Rattle.formatting.proofs.Sources.{taking-made, joined-made}
+use Rattle.formatting.proofs.Sources.{table-made, joined-made}
 use borrow.Author.Needs.{needs}
 use Rattle.formatting.proofs.join_outgoing.Statement.{statement}
 use Rattle.formatting.proofs.join_outgoing.Tie as tie
@@ -43,21 +43,27 @@ copy-requires-2 c κs = search needs
 
 slice-aggregate-join-values : tie.Need-slice-aggregate-join-values
 slice-aggregate-join-values c =
-    let g = c .before .before .before .before .before .before .before .before .before .before .before .before .before .before in
-    sym (taking-made (g .pre .0) (c .before .before .before .before .before .before .copy .ensures) _ (c .before .before .copy2 .ensures) .long)
+    let g = c .before .before .before .before .before .before .before .before .before .before .before .before .before .before .before .before in
+    sym (table-made (g .pre .0) (c .before .before .before .before .before .before .copy .ensures) _ (c .before .before .copy2 .ensures) .long)
 
 join-values-requires : tie.Need-join-values-requires
 join-values-requires c κs =
-    let g = c .before .before .before .before .before .before .before .before .before .before .before .before .before .before .before in
-    (taking-made (g .pre .0) (c .before .before .before .before .before .before .before .copy .ensures) _ (c .before .before .before .copy2 .ensures), g .pre .1, g .pre .2)
+    let g = c .before .before .before .before .before .before .before .before .before .before .before .before .before .before .before .before .before .before .before in
+    (table-made (g .pre .0) (c .before .before .before .before .before .before .before .before .before .copy .ensures) _ (c .before .before .before .before .before .copy2 .ensures), g .pre .1, g .pre .2)
 
 same-length : tie.Need-same-length
 same-length c = search needs
 
+same-length-2 : tie.Need-same-length-2
+same-length-2 c = search needs
+
+same-length-3 : tie.Need-same-length-3
+same-length-3 c = search needs
+
 returns : tie.Need-returns
 returns c =
-    let g = c .before .before .before .before .before .before .before .before .before .before .before .before .before .before .before .before .before .before in
-    joined-made (g .pre .0) (c .before .before .before .before .before .before .before .before .before .before .copy .ensures) _ (c .before .before .before .before .before .before .copy2 .ensures) (g .args .served) (g .args .fas .now) (c .before .before .join-values .ensures)
+    let g = c .before .before .before .before .before .before .before .before .before .before .before .before .before .before .before .before .before .before .before .before .before .before .before .before .before .before in
+    joined-made (g .pre .0) (c .before .before .before .before .before .before .before .before .before .before .before .before .before .before .before .before .copy .ensures) _ (c .before .before .before .before .before .before .before .before .before .before .before .before .copy2 .ensures) (g .args .cas .now) (g .args .served) (g .args .fas .now) (c .before .before .before .before .before .before .join-values .ensures)
 
 pub join-outgoing-spec : {M : Type 1} → statement M
 join-outgoing-spec =
@@ -78,4 +84,6 @@ join-outgoing-spec =
     slice-aggregate-join-values
     join-values-requires
     same-length
+    same-length-2
+    same-length-3
     returns)

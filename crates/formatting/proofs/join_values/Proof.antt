@@ -1,45 +1,40 @@
 -- Joined by the table that was made.
-use Rattle.formatting.proofs.Tables.{blank, placed-outgoing}
+use Rattle.formatting.specs.Sources.{settingsIn}
+use Rattle.formatting.proofs.Tables.{sent-made}
 use Rattle.formatting.proofs.Joining.{joins-as}
 use borrow.Author.Needs.{needs}
 use Rattle.formatting.proofs.join_values.Statement.{statement}
 use Rattle.formatting.proofs.join_values.Tie as tie
 
-slice-aggregate-place-values : tie.Need-slice-aggregate-place-values
-slice-aggregate-place-values c = search needs
-
-slice-aggregate-place-values-2 : tie.Need-slice-aggregate-place-values-2
-slice-aggregate-place-values-2 c = search needs
-
 place-values-requires : tie.Need-place-values-requires
-place-values-requires c κs = (search needs, blank, blank)
-
-slice-aggregate-join-placed : tie.Need-slice-aggregate-join-placed
-slice-aggregate-join-placed c = search needs
-
-slice-aggregate-join-placed-2 : tie.Need-slice-aggregate-join-placed-2
-slice-aggregate-join-placed-2 c = search needs
+place-values-requires c κs = search needs
 
 join-placed-requires : tie.Need-join-placed-requires
-join-placed-requires c κs = search needs
+join-placed-requires c κs =
+    let g = c .before .before .before .before .before .before .before .before .before .before .before .before .before .before .before .before in
+    (c .before .before .before .before .before .before .before .place-values .ensures .table, g .pre .1, g .pre .2)
 
 same-length : tie.Need-same-length
 same-length c = search needs
 
+same-length-2 : tie.Need-same-length-2
+same-length-2 c = search needs
+
+same-length-3 : tie.Need-same-length-3
+same-length-3 c = search needs
+
 returns : tie.Need-returns
 returns c =
-    let a = c .before .before .before .before .before .before .before .before .before .before .before .before .before .before .before .args in
-    joins-as (placed-outgoing (c .before .before .before .before .before .before .before .before .place-values .ensures) (a .served) (a .fas .now)) (c .before .before .join-placed .ensures)
+    let a = c .before .before .before .before .before .before .before .before .before .before .before .before .before .before .before .before .before .before .before .args in
+    joins-as (sent-made (settingsIn (a .source .now)) (a .source .now) (a .cas .now) (a .starts .now) (a .counts .now) (a .served) (c .before .before .before .before .before .before .before .before .before .before .place-values .ensures) (a .fas .now)) (c .before .before .join-placed .ensures)
 
 pub join-values-spec : {M : Type 1} → statement M
 join-values-spec =
     tie.close
     (tie.spec
-    slice-aggregate-place-values
-    slice-aggregate-place-values-2
     place-values-requires
-    slice-aggregate-join-placed
-    slice-aggregate-join-placed-2
     join-placed-requires
     same-length
+    same-length-2
+    same-length-3
     returns)

@@ -1,8 +1,12 @@
 -- Each way gives the answer that document 01 has for it.
 use mathlib.Core.Path.{refl, sym, _∙_}
+use native.Mathlib.Omega.{arith}
 use lib.ListN.{getD}
-use Rattle.number.specs.Answering.{lookupOfBody, digitsOfBody}
-use Rattle.number.proofs.Answering.{digits-long, holds-unserved, holds-refused, given-escaped, given-short, holds-served, serviceable, formattable}
+use Rattle.conditioning.proofs.Marking.{markable-anew}
+use Rattle.formatting.proofs.Places.{digits-long}
+use Rattle.formatting.proofs.Tables.{marks-formattable, marked-outgoing}
+use Rattle.formatting.specs.Sources.{lookupIn, digitsIn}
+use Rattle.number.proofs.Answering.{holds-unserved, holds-refused, holds-digits, given-escaped, given-short, holds-served, serviceable}
 use borrow.Author.Needs.{needs}
 use Rattle.number.proofs.answer_by.Statement.{statement}
 use Rattle.number.proofs.answer_by.Tie as tie
@@ -28,20 +32,26 @@ unserved-requires c κs = search needs
 returns : tie.Need-returns
 returns c =
     let a = c .before .before .before .before .before .before .before .before .before .before .before .args in
-    holds-unserved _ _ _ _ _ (given-escaped (a .settings .now) (lookupOfBody (a .body .now)) (getD (a .body .now) 0 0) (digitsOfBody (a .n) (a .body .now)) (a .prefix) (a .content .now) _ (c .before .before .before .before .before .cas-of .ensures) _ (c .before .before .before .outgoing-class .ensures) (sym (c .before .before .no-conditioning .ensures) ∙ c .before .if1 .taken)) (c .unserved .ensures)
+    holds-unserved _ _ _ _ _ (given-escaped (a .settings .now) (lookupIn (a .body .now)) (getD (a .body .now) 0 0) (digitsIn (a .n) (a .body .now)) (a .prefix) (a .content .now) _ (c .before .before .before .before .before .cas-of .ensures) _ (c .before .before .before .outgoing-class .ensures) (sym (c .before .before .no-conditioning .ensures) ∙ c .before .if1 .taken)) (c .unserved .ensures)
 
-is-short-requires : tie.Need-is-short-requires
-is-short-requires c κs = search needs
+slice-aggregate-mark-spans : tie.Need-slice-aggregate-mark-spans
+slice-aggregate-mark-spans c = search needs
+
+slice-aggregate-mark-spans-2 : tie.Need-slice-aggregate-mark-spans-2
+slice-aggregate-mark-spans-2 c = search needs
+
+mark-spans-requires : tie.Need-mark-spans-requires
+mark-spans-requires c κs = let g = c .before .before .before .before .before .before .before .before .before .before .before .before in markable-anew (g .args .n) 2 (omega arith) (omega (arith, g .pre .few))
 
 refused-requires : tie.Need-refused-requires
 refused-requires c κs = search needs
 
 returns-2 : tie.Need-returns-2
 returns-2 c =
-    let b = c .before .before .before .before .before .before .before .before .before .before .before .before .before in
+    let b = c .before .before .before .before .before .before .before .before .before .before .before .before .before .before .before .before .before in
     let a = b .args in
-    let short = sym (c .before .before .is-short .ensures) ∙ c .before .if2 .taken in
-    holds-refused _ _ _ _ (given-short (a .settings .now) (lookupOfBody (a .body .now)) (getD (a .body .now) 0 0) (digitsOfBody (a .n) (a .body .now)) (a .prefix) (a .content .now) _ (c .before .before .before .before .before .before .before .cas-of .ensures) _ (c .before .before .before .before .before .outgoing-class .ensures) (sym (c .before .before .before .before .no-conditioning .ensures) ∙ c .before .before .before .if1 .left) (rw (digits-long (a .body .now) (a .n) (b .pre .body-long) (b .pre .few)) short)) (c .refused .ensures)
+    let short = sym (c .before .before .before .before .mark-spans .ensures .short-is) ∙ c .before .if2 .taken in
+    holds-refused _ _ _ _ (given-short (a .settings .now) (lookupIn (a .body .now)) (getD (a .body .now) 0 0) (digitsIn (a .n) (a .body .now)) (a .prefix) (a .content .now) _ (c .before .before .before .before .before .before .before .before .before .before .before .cas-of .ensures) _ (c .before .before .before .before .before .before .before .before .before .outgoing-class .ensures) (sym (c .before .before .before .before .before .before .before .before .no-conditioning .ensures) ∙ c .before .before .before .before .before .before .before .if1 .left) (rw (digits-long (a .body .now) (a .n) (omega (arith, b .pre .body-long, b .pre .few))) short)) (c .refused .ensures)
 
 sas-of-requires : tie.Need-sas-of-requires
 sas-of-requires c κs = search needs
@@ -57,27 +67,37 @@ part-service-stage-end c = search needs
 
 service-stage-requires : tie.Need-service-stage-requires
 service-stage-requires c κs =
-    let b = c .before .before .before .before .before .before .before .before .before .before .before .before .before .before in
+    let b = c .before .before .before .before .before .before .before .before .before .before .before .before .before .before .before .before .before .before in
     serviceable (b .args .settings .now) (b .args .body .now) (b .args .n) (b .args .content .now) (b .args .out .now) (b .pre) _ _ (c .before .sas-of .ensures) refl
 
 fas-of-requires : tie.Need-fas-of-requires
 fas-of-requires c κs = search needs
 
+slice-aggregate-finish : tie.Need-slice-aggregate-finish
+slice-aggregate-finish c = search needs
+
+slice-aggregate-finish-2 : tie.Need-slice-aggregate-finish-2
+slice-aggregate-finish-2 c = search needs
+
 finish-requires : tie.Need-finish-requires
 finish-requires c κs =
-    let b = c .before .before .before .before .before .before .before .before .before .before .before .before .before .before .before .before .before in
-    (formattable (b .args .settings .now) (b .args .body .now) (b .args .n) (b .args .content .now) (b .args .out .now) (b .pre) _ (b .args .prefix) (sym (c .before .before .before .before .before .before .is-short .ensures) ∙ c .before .before .before .before .before .if2 .left), b .pre .room)
+    let b = c .before .before .before .before .before .before .before .before .before .before .before .before .before .before .before .before .before .before .before .before .before .before .before in
+    let m = c .before .before .before .before .before .before .before .before .before .before .mark-spans .ensures .marked (c .before .before .before .before .before .before .before .if2 .left) in
+    (marks-formattable (b .args .settings .now) (b .args .body .now) (b .pre .settings-long) (b .pre .body-long) (b .pre .few) (search needs) (search needs) m, b .pre .room)
 
 same-length : tie.Need-same-length
 same-length c = search needs
 
 returns-3 : tie.Need-returns-3
 returns-3 c =
-    let b = c .before .before .before .before .before .before .before .before .before .before .before .before .before .before .before .before .before .before .before .before in
+    let b = c .before .before .before .before .before .before .before .before .before .before .before .before .before .before .before .before .before .before .before .before .before .before .before .before .before .before .before .before in
     let a = b .args in
-    let enough = sym (c .before .before .before .before .before .before .before .before .before .is-short .ensures) ∙ c .before .before .before .before .before .before .before .before .if2 .left in
-    holds-served (a .settings .now) (lookupOfBody (a .body .now)) (getD (a .body .now) 0 0) (digitsOfBody (a .n) (a .body .now)) (a .prefix) (a .content .now) _ (c .before .before .before .before .before .before .before .before .before .before .before .before .before .before .cas-of .ensures) _ (c .before .before .before .before .before .before .before .before .before .before .before .before .outgoing-class .ensures) (sym (c .before .before .before .before .before .before .before .before .before .before .before .no-conditioning .ensures) ∙ c .before .before .before .before .before .before .before .before .before .before .if1 .left) (rw (digits-long (a .body .now) (a .n) (b .pre .body-long) (b .pre .few)) enough)
-    _ _ (c .before .before .before .before .before .before .before .sas-of .ensures) (c .before .before .before .before .fas-of .ensures) _ (c .before .before .before .before .before .service-stage .ensures) _ _ (c .before .before .finish .ensures)
+    let e = c .before .before .before .before .before .before .before .before .before .before .before .before .if2 .left in
+    let made = c .before .before .before .before .before .before .before .before .before .before .before .before .before .before .before .mark-spans .ensures in
+    let enough = sym (made .short-is) ∙ e in
+    let digits = marked-outgoing (a .settings .now) (a .body .now) _ (b .pre .body-long) (b .pre .few) (made .marked e) (c .before .before .before .before .before .before .before .before .before .service-stage .result) (c .before .before .before .before .before .before .before .before .fas-of .result .now) in
+    holds-served (a .settings .now) (lookupIn (a .body .now)) (getD (a .body .now) 0 0) (digitsIn (a .n) (a .body .now)) (a .prefix) (a .content .now) _ (c .before .before .before .before .before .before .before .before .before .before .before .before .before .before .before .before .before .before .before .before .before .before .cas-of .ensures) _ (c .before .before .before .before .before .before .before .before .before .before .before .before .before .before .before .before .before .before .before .before .outgoing-class .ensures) (sym (c .before .before .before .before .before .before .before .before .before .before .before .before .before .before .before .before .before .before .before .no-conditioning .ensures) ∙ c .before .before .before .before .before .before .before .before .before .before .before .before .before .before .before .before .before .before .if1 .left) (rw (digits-long (a .body .now) (a .n) (omega (arith, b .pre .body-long, b .pre .few))) enough)
+    _ _ (c .before .before .before .before .before .before .before .before .before .before .before .sas-of .ensures) (c .before .before .before .before .before .before .before .before .fas-of .ensures) _ (c .before .before .before .before .before .before .before .before .before .service-stage .ensures) _ _ (holds-digits _ _ _ _ _ digits (c .before .before .before .before .finish .ensures))
 
 pub answer-by-spec : {M : Type 1} → statement M
 answer-by-spec =
@@ -90,7 +110,9 @@ answer-by-spec =
     no-conditioning-requires
     unserved-requires
     returns
-    is-short-requires
+    slice-aggregate-mark-spans
+    slice-aggregate-mark-spans-2
+    mark-spans-requires
     refused-requires
     returns-2
     sas-of-requires
@@ -99,6 +121,8 @@ answer-by-spec =
     part-service-stage-end
     service-stage-requires
     fas-of-requires
+    slice-aggregate-finish
+    slice-aggregate-finish-2
     finish-requires
     same-length
     returns-3)

@@ -17,7 +17,7 @@ returns-2 : tie.Need-returns-2
 returns-2 c = holds-withheld _ _ _ _ _ _ (c .before .before .if1 .left) (c .before .if2 .taken) (c .served2 .ensures)
 
 join-outgoing-requires : tie.Need-join-outgoing-requires
-join-outgoing-requires c κs = search needs
+join-outgoing-requires c κs = let g = c .before .before .before .before .before .before .before .before .before .before .before .before .before in (g .pre .0, search needs, search needs)
 
 refused-requires : tie.Need-refused-requires
 refused-requires c κs = search needs
@@ -25,17 +25,29 @@ refused-requires c κs = search needs
 same-length : tie.Need-same-length
 same-length c = search needs
 
+same-length-2 : tie.Need-same-length-2
+same-length-2 c = search needs
+
+same-length-3 : tie.Need-same-length-3
+same-length-3 c = search needs
+
 returns-3 : tie.Need-returns-3
-returns-3 c = holds-long _ _ _ _ _ _ (c .before .before .before .before .before .before .before .if1 .left) (c .before .before .before .before .before .before .if2 .left) _ (c .before .before .before .before .join-outgoing .ensures) (c .before .if3 .taken) (c .refused .ensures)
+returns-3 c = holds-long _ _ _ _ _ _ (c .before .before .before .before .before .before .before .before .before .before .before .before .before .if1 .left) (c .before .before .before .before .before .before .before .before .before .before .before .before .if2 .left) _ (c .before .before .before .before .before .before .before .before .join-outgoing .ensures) (c .before .if3 .taken) (c .refused .ensures)
 
 served-requires-3 : tie.Need-served-requires-3
 served-requires-3 c κs = search needs
 
-same-length-2 : tie.Need-same-length-2
-same-length-2 c = search needs
+same-length-4 : tie.Need-same-length-4
+same-length-4 c = search needs
+
+same-length-5 : tie.Need-same-length-5
+same-length-5 c = search needs
+
+same-length-6 : tie.Need-same-length-6
+same-length-6 c = search needs
 
 returns-4 : tie.Need-returns-4
-returns-4 c = holds-written _ _ _ _ _ _ (c .before .before .before .before .before .before .before .if1 .left) (c .before .before .before .before .before .before .if2 .left) _ (c .before .before .before .before .join-outgoing .ensures) (c .before .if3 .left) (c .served3 .ensures)
+returns-4 c = holds-written _ _ _ _ _ _ (c .before .before .before .before .before .before .before .before .before .before .before .before .before .if1 .left) (c .before .before .before .before .before .before .before .before .before .before .before .before .if2 .left) _ (c .before .before .before .before .before .before .before .before .join-outgoing .ensures) (c .before .if3 .left) (c .served3 .ensures)
 
 pub finish-spec : {M : Type 1} → statement M
 finish-spec =
@@ -48,7 +60,11 @@ finish-spec =
     join-outgoing-requires
     refused-requires
     same-length
+    same-length-2
+    same-length-3
     returns-3
     served-requires-3
-    same-length-2
+    same-length-4
+    same-length-5
+    same-length-6
     returns-4)
