@@ -60,21 +60,18 @@ passed-before n s i j h p =
     let e : (placesPass n (take i s) && placesPass (n - i) (drop i (take j s))) ≡ true = rw (take-take i j s h) at (sym (pass-parts i n (take j s)) ∙ p) in
     is-true _ (and-left (placesPass n (take i s)) _ (true-is _ e))
 
--- b is what the test of the eight places from i on gave, which were lent with all that is behind them
-module _ (n : ℕ) (s : List ℕ) (i k : ℕ) (b : Bool) (k-is : k ≡ n - i) (b-is : b ≡ placesPass k (take 8 (take (length s - i) (drop i s)))) where
-  lent-is : placesPass (n - i) (take 8 (drop i s)) ≡ b
-  lent-is = sym (b-is ∙ rw (rest-is i s, k-is))
-
+-- b is what the test of the eight places from i on gave
+module _ (n : ℕ) (s : List ℕ) (i : ℕ) (b : Bool) (b-is : b ≡ placesPass (n - i) (take 8 (drop i s))) where
   pub block-fails : b ≡ false → placesPass n s ≡ false
-  block-fails e = pass-parts i n s ∙ rw (pass-parts 8 (n - i) (drop i s), lent-is, e, and-false)
+  block-fails e = pass-parts i n s ∙ rw (pass-parts 8 (n - i) (drop i s), sym b-is, e, and-false)
 
   pub block-passes : b ≡ true → PassedTo n s i → PassedTo n s (i + 8)
   block-passes e p =
       let l : i + 8 - i ≡ 8 = omega arith in
-      pass-parts i n (take (i + 8) s) ∙ rw (take-take i (i + 8) s (omega arith), p, drop-take i (i + 8) s (omega arith), l, lent-is, e)
+      pass-parts i n (take (i + 8) s) ∙ rw (take-take i (i + 8) s (omega arith), p, drop-take i (i + 8) s (omega arith), l, sym b-is, e)
 
   -- the last eight, some of which may have passed already
   pub block-last : (j : ℕ) → i ≤ j → length s ≡ i + 8 → PassedTo n s j → b ≡ placesPass n s
   block-last j h l p =
       let d : take 8 (drop i s) ≡ drop i s = take-all 8 (drop i s) (rw length-drop (omega arith)) in
-      sym (pass-parts i n s ∙ rw (passed-before n s i j h p) (ap (placesPass (n - i)) (sym d) ∙ lent-is))
+      sym (pass-parts i n s ∙ rw (passed-before n s i j h p) (ap (placesPass (n - i)) (sym d) ∙ sym b-is))

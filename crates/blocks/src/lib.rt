@@ -1,10 +1,10 @@
 // Blocks of eight bytes, each read and written as one number: when compiled, one load or one store.
 ghost use mathlib.Core.Path.{_≡_};
-ghost use Prim.Native.Nat.{_-_, _≤_};
+ghost use Prim.Native.Nat.{_≤_};
 ghost use lib.ListN.{length, take};
 ghost use Rattle.meaning.specs.Basics.{writtenOver, digitsInRange};
 ghost use Rattle.blocks.specs.Endian.{WideByte, littleEndian, bytesOf};
-ghost use Rattle.blocks.specs.Places.{placesPass, masks};
+ghost use Rattle.blocks.specs.Places.{placesPass, disjoint, masks, maskTable};
 
 // A byte as a number to compute with.
 fn wide(x: u8) -> u64
@@ -52,32 +52,29 @@ pub fn copy_sixteen(to: &mut [u8], from: &[u8])
     put_eight(&mut to[8..], high);
 }
 
-// The bits that eight places may not have of which the first k are digits and the others unused.
-fn forbidden(k: usize) -> u64
-    ensures { λ r. ⌜ r ≡ littleEndian (masks k 8) ⌝ }
+// Makes of 64 unused places the table that `digits_in_range_by` reads: the bits that 32 digits may not have, and then those
+// that 32 unused places may not have. A string of up to 32 places has its masks in the table in one piece, whatever its
+// number of digits.
+pub fn mask_digits(table: &mut [u8])
+    requires { ⌜ now table ≡ masks 0 64 ⌝ }
+    ensures { λ _. ⌜ now (table .exit) ≡ maskTable ⌝ }
 {
-    match k {
-        0 => 0xffffffffffffffff,
-        1 => 0xfffffffffffffff0,
-        2 => 0xfffffffffffff0f0,
-        3 => 0xfffffffffff0f0f0,
-        4 => 0xfffffffff0f0f0f0,
-        5 => 0xfffffff0f0f0f0f0,
-        6 => 0xfffff0f0f0f0f0f0,
-        7 => 0xfff0f0f0f0f0f0f0,
-        _ => 0xf0f0f0f0f0f0f0f0,
+    let mut i: usize = 0;
+    while i < 32 {
+        table[i] = 0xf0;
+        i += 1;
     }
 }
 
-// Whether the eight places at the front are digits before place n and 0 from there on.
-fn eight_pass(s: &[u8], n: usize) -> bool
-    requires { ⌜ 8 ≤ length (now s) ⌝ }
-    ensures { λ r. ⌜ r ≡ placesPass n (take 8 (now (s .entry))) ⌝ }
+// Whether none of the eight bytes at the front has a bit of its mask.
+fn eight_pass(s: &[u8], window: &[u8]) -> bool
+    requires { ⌜ (8 ≤ length (now s)) × (8 ≤ length (now window)) ⌝ }
+    ensures { λ r. ⌜ r ≡ disjoint (take 8 (now (s .entry))) (take 8 (now (window .entry))) ⌝ }
 {
-    eight(s) & forbidden(n) == 0
+    eight(s) & eight(window) == 0
 }
 
-// The same of any number of places, a byte at a time.
+// Whether the places are digits before place n and 0 from there on, a byte at a time.
 fn few_pass(s: &[u8], n: usize) -> bool
     ensures { λ r. ⌜ r ≡ placesPass n (now (s .entry)) ⌝ }
 {
@@ -90,34 +87,37 @@ fn few_pass(s: &[u8], n: usize) -> bool
     buffer::all_zero(&s[n..])
 }
 
-// How many of n digits are left at place i.
-fn left(n: usize, i: usize) -> usize
-    ensures { λ r. ⌜ r ≡ n - i ⌝ }
-{
-    if i < n { n - i } else { 0 }
-}
-
-// Whether the places of a digit string are digits before place n and 0 from there on. The last block ends where they
-// end, and so may begin with places that have passed.
-fn places_pass(s: &[u8], n: usize) -> bool
+// Whether the places of a digit string are digits before place n and 0 from there on. The masks of the places from i on
+// are the window of the table from 32 - n + i on; a string that no window fits is tested a byte at a time. The last block
+// ends where the places end, and so may begin with places that have passed.
+fn places_pass(s: &[u8], n: usize, masks: &[u8]) -> bool
+    requires { ⌜ now masks ≡ maskTable ⌝ }
     ensures { λ r. ⌜ r ≡ placesPass n (now (s .entry)) ⌝ }
 {
     if s.len() < 8 {
         return few_pass(s, n);
     }
+    if 32 < s.len() {
+        return few_pass(s, n);
+    }
+    if 32 < n {
+        return few_pass(s, n);
+    }
     let last = s.len() - 8;
     let mut i: usize = 0;
     while i < last {
-        if !eight_pass(&s[i..], left(n, i)) {
+        if !eight_pass(&s[i..], &masks[32 - n + i..]) {
             return false;
         }
         i += 8;
     }
-    eight_pass(&s[last..], left(n, last))
+    eight_pass(&s[last..], &masks[32 - n + last..])
 }
 
-// Whether a digit string, its length byte and then its full width, has lo to hi digits and nothing behind them.
-pub fn digits_in_range(s: &[u8], lo: usize, hi: usize) -> bool
+// Whether a digit string, its length byte and then its full width, has lo to hi digits and nothing behind them, by a table
+// that is made once for several strings.
+pub fn digits_in_range_by(s: &[u8], lo: usize, hi: usize, masks: &[u8]) -> bool
+    requires { ⌜ now masks ≡ maskTable ⌝ }
     ensures { λ r. ⌜ r ≡ digitsInRange lo hi (now (s .entry)) ⌝ }
 {
     if s.len() == 0 {
@@ -130,5 +130,14 @@ pub fn digits_in_range(s: &[u8], lo: usize, hi: usize) -> bool
     if hi < n {
         return false;
     }
-    places_pass(&s[1..], n)
+    places_pass(&s[1..], n, masks)
+}
+
+// The same for one string.
+pub fn digits_in_range(s: &[u8], lo: usize, hi: usize) -> bool
+    ensures { λ r. ⌜ r ≡ digitsInRange lo hi (now (s .entry)) ⌝ }
+{
+    let mut masks = [0xffu8; 64];
+    mask_digits(&mut masks);
+    digits_in_range_by(s, lo, hi, &masks)
 }

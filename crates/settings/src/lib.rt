@@ -3,6 +3,7 @@ ghost use mathlib.Core.Path.{_≡_};
 ghost use lib.ListN.{length};
 ghost use Rattle.meaning.specs.Basics.{if_then_else_, all, within, isDigit};
 ghost use Rattle.meaning.specs.Settings.{isClass, roomsInRange, settingsInRange, entityInRange, asdOrGrnInRange, lookupInRange, numberInRange, dialledInRange};
+ghost use Rattle.blocks.specs.Places.{maskTable};
 use meaning::Class;
 use meaning::ClassOf;
 
@@ -81,35 +82,43 @@ fn limit(test: bool, a: usize, b: usize) -> usize
 }
 
 // Whether the entity of a lookup is in range for its kind.
-fn entity_in_range(kind: u8, entity: &[u8]) -> bool
+fn entity_in_range(kind: u8, entity: &[u8], masks: &[u8]) -> bool
+    requires { ⌜ now masks ≡ maskTable ⌝ }
     ensures { λ r. ⌜ r ≡ entityInRange kind (now (entity .entry)) ⌝ }
 {
-    blocks::digits_in_range(entity, limit(2 <= kind, 1, 0), limit(2 <= kind, 15, 0))
+    blocks::digits_in_range_by(
+        entity,
+        limit(2 <= kind, 1, 0),
+        limit(2 <= kind, 15, 0),
+        masks,
+    )
 }
 
 // Whether the ASD or the GRN of a lookup is in range for its kind.
-fn asd_or_grn_in_range(kind: u8, digits: &[u8]) -> bool
+fn asd_or_grn_in_range(kind: u8, digits: &[u8], masks: &[u8]) -> bool
+    requires { ⌜ now masks ≡ maskTable ⌝ }
     ensures { λ r. ⌜ r ≡ asdOrGrnInRange kind (now (digits .entry)) ⌝ }
 {
-    blocks::digits_in_range(digits, 0, limit(kind == 0, 0, 10))
+    blocks::digits_in_range_by(digits, 0, limit(kind == 0, 0, 10), masks)
 }
 
 // Whether a lookup is in range.
-pub fn lookup_in_range(lookup: &[u8]) -> bool
+fn lookup_in_range(lookup: &[u8], masks: &[u8]) -> bool
     requires { ⌜ length (now lookup) ≡ 39 ⌝ }
+    requires { ⌜ now masks ≡ maskTable ⌝ }
     ensures { λ r. ⌜ r ≡ lookupInRange (now (lookup .entry)) ⌝ }
 {
     let kind = lookup[0];
     if 3 < kind {
         return false;
     }
-    if !entity_in_range(kind, &lookup[1..17]) {
+    if !entity_in_range(kind, &lookup[1..17], masks) {
         return false;
     }
-    if !asd_or_grn_in_range(kind, &lookup[17..28]) {
+    if !asd_or_grn_in_range(kind, &lookup[17..28], masks) {
         return false;
     }
-    asd_or_grn_in_range(kind, &lookup[28..39])
+    asd_or_grn_in_range(kind, &lookup[28..39], masks)
 }
 
 // Whether the body of a number is in range.
@@ -120,10 +129,12 @@ pub fn number_in_range(body: &[u8]) -> bool
     if !is_class(body[0]) {
         return false;
     }
-    if !blocks::digits_in_range(&body[1..34], 0, 32) {
+    let mut masks = [0xffu8; 64];
+    blocks::mask_digits(&mut masks);
+    if !blocks::digits_in_range_by(&body[1..34], 0, 32, &masks) {
         return false;
     }
-    lookup_in_range(&body[34..73])
+    lookup_in_range(&body[34..73], &masks)
 }
 
 // Whether a class and digits that come as themselves are in range.

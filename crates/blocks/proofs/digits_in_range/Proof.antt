@@ -1,59 +1,30 @@
--- Each answer is one law of the test, at what was read.
-use mathlib.Core.Path.{sym}
+-- By the table that was made.
 use borrow.Author.Needs.{needs}
-use Rattle.blocks.proofs.RangeLaws.{range-empty, range-few, range-many, range-places}
+use Rattle.blocks.proofs.MaskLaws.{masks-none}
 use Rattle.blocks.proofs.digits_in_range.Statement.{statement}
 use Rattle.blocks.proofs.digits_in_range.Tie as tie
 
+slice-aggregate-mask-digits : tie.Need-slice-aggregate-mask-digits
+slice-aggregate-mask-digits c = search needs
+
+mask-digits-requires : tie.Need-mask-digits-requires
+mask-digits-requires c κs = masks-none 64
+
+slice-aggregate-digits-in-range-by : tie.Need-slice-aggregate-digits-in-range-by
+slice-aggregate-digits-in-range-by c = search needs
+
+digits-in-range-by-requires : tie.Need-digits-in-range-by-requires
+digits-in-range-by-requires c κs = search needs
+
 returns : tie.Need-returns
-returns c = let a = c .before .before .args in sym (range-empty (a .s .now) (a .lo) (a .hi) (c .if1 .taken))
-
-shared-slice-read-wide : tie.Need-shared-slice-read-wide
-shared-slice-read-wide c = search needs
-
-wide-requires : tie.Need-wide-requires
-wide-requires c κs = search needs
-
-returns-2 : tie.Need-returns-2
-returns-2 c =
-    let a = c .before .before .before .before .before .args in
-    sym (range-few (a .s .now) (a .lo) (a .hi) _ (c .before .before .before .if1 .left) (c .before .wide .ensures .is) (c .if2 .taken))
-
-returns-3 : tie.Need-returns-3
-returns-3 c =
-    let a = c .before .before .before .before .before .before .args in
-    sym (range-many (a .s .now) (a .lo) (a .hi) _ (c .before .before .before .before .if1 .left) (c .before .before .wide .ensures .is) (c .if3 .taken))
-
-sub-places-pass : tie.Need-sub-places-pass
-sub-places-pass c = search needs
-
-part-places-pass-start : tie.Need-part-places-pass-start
-part-places-pass-start c = search needs
-
-part-places-pass-end : tie.Need-part-places-pass-end
-part-places-pass-end c = search needs
-
-places-pass-requires : tie.Need-places-pass-requires
-places-pass-requires c κs = search needs
-
-returns-4 : tie.Need-returns-4
-returns-4 c =
-    let d = c .before .before in
-    let a = d .before .before .before .before .before .before .args in
-    range-places (a .s .now) (a .lo) (a .hi) _ (d .before .before .before .before .if1 .left) (d .before .before .wide .ensures .is)
-    (d .before .if2 .left) (d .if3 .left) _ (c .places-pass .ensures)
+returns c = search needs
 
 pub digits-in-range-spec : {M : Type 1} → statement M
 digits-in-range-spec =
     tie.close
     (tie.spec
-    returns
-    shared-slice-read-wide
-    wide-requires
-    returns-2
-    returns-3
-    sub-places-pass
-    part-places-pass-start
-    part-places-pass-end
-    places-pass-requires
-    returns-4)
+    slice-aggregate-mask-digits
+    mask-digits-requires
+    slice-aggregate-digits-in-range-by
+    digits-in-range-by-requires
+    returns)

@@ -1,4 +1,4 @@
--- Eight places pass exactly if no bit of them is forbidden.
+-- Eight bytes and their masks are disjoint exactly if their numbers are.
 use native.Mathlib.Omega.{arith}
 use borrow.Author.Needs.{needs}
 use Rattle.blocks.proofs.MaskLaws.{block-bits}
@@ -8,13 +8,14 @@ use Rattle.blocks.proofs.eight_pass.Tie as tie
 eight-requires : tie.Need-eight-requires
 eight-requires c κs = search needs
 
-forbidden-requires : tie.Need-forbidden-requires
-forbidden-requires c κs = search needs
+eight-requires-2 : tie.Need-eight-requires-2
+eight-requires-2 c κs = search needs
 
 returns : tie.Need-returns
 returns c =
-    let g = c .before .before .before in
-    block-bits _ (g .args .s .now) _ _ (g .pre) (λ k. omega (arith, c .before .before .shared-slice-known .given k)) (c .before .eight .ensures) (c .forbidden .ensures)
+    let g = c .before .before .before .before in
+    block-bits (g .args .s .now) (g .args .window .now) _ _ (g .pre .0) (g .pre .1) (λ k. omega (arith, c .before .before .before .shared-slice-known .given k))
+    (λ k. omega (arith, c .before .before .shared-slice-known2 .given k)) (c .before .eight .ensures) (c .eight2 .ensures)
 
 pub eight-pass-spec : {M : Type 1} → statement M
-eight-pass-spec = tie.close (tie.spec eight-requires forbidden-requires returns)
+eight-pass-spec = tie.close (tie.spec eight-requires eight-requires-2 returns)

@@ -14,7 +14,7 @@ shared-slice-read-kind c = search needs
 
 returns : tie.Need-returns
 unfolding lookupInRange
-returns c = sym (all-false 0 (lookupRanges (c .before .before .before .args .lookup .now)) (lt-leb _ 3 (c .if1 .taken)))
+returns c = sym (all-false 0 (lookupRanges (c .before .before .before .before .args .lookup .now)) (lt-leb _ 3 (c .if1 .taken)))
 
 sub-entity-in-range : tie.Need-sub-entity-in-range
 sub-entity-in-range c = search needs
@@ -30,7 +30,7 @@ entity-in-range-requires c κs = search needs
 
 returns-2 : tie.Need-returns-2
 unfolding lookupInRange
-returns-2 c = sym (all-false 1 (lookupRanges (c .before .before .before .before .before .before .args .lookup .now)) (failed (c .before .entity-in-range .ensures) (c .if2 .taken)))
+returns-2 c = sym (all-false 1 (lookupRanges (c .before .before .before .before .before .before .before .args .lookup .now)) (failed (c .before .entity-in-range .ensures) (c .if2 .taken)))
 
 sub-asd-or-grn-in-range : tie.Need-sub-asd-or-grn-in-range
 sub-asd-or-grn-in-range c = search needs
@@ -46,7 +46,7 @@ asd-or-grn-in-range-requires c κs = search needs
 
 returns-3 : tie.Need-returns-3
 unfolding lookupInRange
-returns-3 c = sym (all-false 2 (lookupRanges (c .before .before .before .before .before .before .before .before .before .args .lookup .now)) (failed (c .before .asd-or-grn-in-range .ensures) (c .if3 .taken)))
+returns-3 c = sym (all-false 2 (lookupRanges (c .before .before .before .before .before .before .before .before .before .before .args .lookup .now)) (failed (c .before .asd-or-grn-in-range .ensures) (c .if3 .taken)))
 
 sub-asd-or-grn-in-range-2 : tie.Need-sub-asd-or-grn-in-range-2
 sub-asd-or-grn-in-range-2 c = search needs
