@@ -1,28 +1,56 @@
 -- A table of marks along the CAs: a value that is not marked yet is decided by what is left of the list.
-use Prim.Native.Nat.{ℕ, zero, suc, _+_, _-_, _≤_, _<_}
+use Prim.Native.Nat.{ℕ, zero, suc, _+_, _-_, _*_, _/_, _%_, _^_, _≤_, _<_}
 use native.Mathlib.Omega.{arith}
 use mathlib.Core.Path.{_≡_, refl, sym, ap, subst, _∙_}
 use mathlib.Core.Logic.{_≢_}
 use mathlib.Core.Bool.{Bool, true, false}
 use mathlib.Core.List.{List, [], _∷_}
-use lib.ListN.{length, getD, replicate}
+use lib.ListN.{length, getD, replicate, List·getD-eq-default}
 use lib.Seq.{getD-set-same, getD-set-other}
-use lib.Dec.{eqb}
+use lib.Dec.{T, eqb, eqb→eq}
 use borrow.Author.Tests.{eqb-true, eqb-false, eq-eqb, ne-eqb}
+use Rattle.meaning.specs.Basics.{if_then_else_}
 use Rattle.meaning.specs.Actions.{CA, valueOf}
 use Rattle.meaning.specs.Conditioning.{width, Stretch, stretchFrom, stretchOf}
+use Rattle.meaning.proofs.Tests.{allBelow, at-below}
 use Rattle.meaning.proofs.Stretches.{value-small}
 use Rattle.conditioning.specs.Marks.{Takes, MarksOnce, Markable, Marks, MarksAll}
 use Rattle.conditioning.proofs.Walk.{ccdef-takes-none, takes-its-value}
 
 -- WHICH VALUE AN ACTION TAKES
 
-pub takes-none : (a : CA) → a .code ≡ 15 → Takes a 0
+takes-none : (a : CA) → a .code ≡ 15 → Takes a 0
 takes-none a e = record { is = λ v h. ccdef-takes-none v a e ∙ sym (ne-eqb 0 v (λ z. omega arith)); small = omega arith }
 
-pub takes-one : (a : CA) (r : ℕ) → a .code ≢ 15 → r ≡ valueOf (a .code) → Takes a r
+takes-one : (a : CA) (r : ℕ) → a .code ≢ 15 → r ≡ valueOf (a .code) → Takes a r
 takes-one a r h e =
     record { is = λ v k. takes-its-value v a h ∙ ap (λ (x : ℕ). eqb x v) (sym e); small = omega (arith, value-small (a .code)) }
+
+-- the values that the codes take, four bits for a code: none for CCDEF, and for any other the value that it sets
+abbrev valuesTaken : ℕ
+valuesTaken = 456053888748036352
+
+abbrev takenTest : ℕ → Bool
+takenTest c = eqb (valuesTaken / 2 ^ (4 * c) % 16) (if eqb c 15 then 0 else valueOf c)
+
+codes-taken : T (allBelow takenTest 16)
+unfolding valueOf
+codes-taken = tt
+
+pub takes-listed : (a : CA) → a .code ≤ 15 → Takes a (valuesTaken / 2 ^ (4 * a .code) % 16)
+takes-listed a h = go (eqb (a .code) 15) refl (eqb→eq (valuesTaken / 2 ^ (4 * a .code) % 16) (if eqb (a .code) 15 then 0 else valueOf (a .code)) (at-below takenTest 16 codes-taken (a .code) (omega arith)))
+  where
+    go : (b : Bool) → eqb (a .code) 15 ≡ b → valuesTaken / 2 ^ (4 * a .code) % 16 ≡ (if b then 0 else valueOf (a .code)) → Takes a (valuesTaken / 2 ^ (4 * a .code) % 16)
+    go true e t = subst (Takes a) (sym t) (takes-none a (eqb-true (a .code) 15 e))
+    go false e t = takes-one a (valuesTaken / 2 ^ (4 * a .code) % 16) (eqb-false (a .code) 15 e) t
+
+-- no code stands behind the last
+pub takes-unlisted : (a : CA) → 15 < a .code → Takes a 0
+unfolding valueOf
+takes-unlisted a h =
+    let past : 16 ≤ a .code = h in
+    let none : 0 ≡ valueOf (a .code) = rw List·getD-eq-default in
+    takes-one a 0 (λ e. omega arith) none
 
 -- ONE VALUE
 

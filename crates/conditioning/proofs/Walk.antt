@@ -1,23 +1,38 @@
 -- One step of conditioning along the CAs, and the stretch of a filter and a set.
-use Prim.Native.Nat.{ℕ, _+_, _-_, _≤_}
+use Prim.Native.Nat.{ℕ, _+_, _-_, _≤_, _<_}
 use native.Mathlib.Omega.{arith}
 use native.Mathlib.Nat.{add-sub-cancel-left}
-use mathlib.Core.Path.{_≡_, refl, ap}
+use mathlib.Core.Path.{_≡_, refl, ap, _∙_}
 use mathlib.Core.Logic.{_≢_}
 use mathlib.Core.Bool.{Bool, true, false, _||_, and-true, and-false}
 use mathlib.Core.List.{List, _∷_}
 use lib.ListN.{length, take, drop}
-use lib.Dec.{eqb}
-use borrow.Author.Tests.{ltb-false, eq-eqb, ne-eqb}
+use lib.Dec.{eqb, ltb}
+use borrow.Author.Tests.{ltb-true, ltb-false, lt-ltb, eqb-true, eq-eqb, ne-eqb}
+use Rattle.meaning.specs.Basics.{if_then_else_, isZero}
 use Rattle.meaning.specs.Filters.{Filter}
 use Rattle.meaning.specs.Actions.{CA, isX, valueOf, ActionSet}
 use Rattle.meaning.specs.Groups.{fixedOf}
 use Rattle.meaning.specs.Conditioning.{width, meetsTooFew, short, Stretch, takesValue, digitsAt}
 use Rattle.meaning.specs.Reads.{stretchBy}
 use Rattle.meaning.specs.declared.Span.{Span}
-use Rattle.meaning.proofs.Tests.{is-false, false-is, or-left-false, or-right-false}
+use Rattle.meaning.proofs.Tests.{same-tests, is-true, true-is, is-false, false-is, or-left-false, or-right-false}
 use Rattle.ranges.proofs.Lists.{on}
 use Rattle.conditioning.specs.Spans.{stretchIn, Covers}
+
+-- an X action meets too few digits where it meets none
+pub too-few : (prefix left : ℕ) (a : CA) (least : ℕ) → least ≡ (if isX a then 1 else fixedOf prefix a) → ltb left least ≡ meetsTooFew prefix left a
+too-few prefix left a least e = ap (ltb left) e ∙ go (isX a)
+  where
+    none : (n : ℕ) → ltb n 1 ≡ isZero n
+    none n =
+        same-tests (ltb n 1) (isZero n)
+        (λ t. true-is (isZero n) (eq-eqb n 0 (let h : n < 1 = ltb-true n 1 (is-true (ltb n 1) t) in omega arith)))
+        (λ t. true-is (ltb n 1) (lt-ltb n 1 (let h : n ≡ 0 = eqb-true n 0 (is-true (isZero n) t) in omega arith)))
+
+    go : (x : Bool) → ltb left (if x then 1 else fixedOf prefix a) ≡ (if x then isZero left else ltb left (fixedOf prefix a))
+    go true = none left
+    go false = refl
 
 pub enough : (prefix left : ℕ) (a : CA) → meetsTooFew prefix left a ≡ false → width prefix left a ≤ left
 enough prefix left a e = go (isX a) refl

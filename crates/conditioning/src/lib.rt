@@ -4,13 +4,14 @@ use actions::action_at;
 use actions::fixed_of;
 use actions::is_x;
 use actions::value_of;
-use buffer::wide;
 use meaning::Span;
 ghost use mathlib.Core.Path.{_≡_};
 ghost use mathlib.Core.Bool.{false};
 ghost use Prim.Native.Nat.{_<_};
 ghost use lib.ListN.{length};
-ghost use Rattle.meaning.specs.Actions.{casOf};
+ghost use Rattle.meaning.specs.Basics.{if_then_else_};
+ghost use Rattle.meaning.specs.Actions.{casOf, isX};
+ghost use Rattle.meaning.specs.Groups.{fixedOf};
 ghost use Rattle.meaning.specs.Conditioning.{width, meetsTooFew, short, takesValue, stretchOf, digitsAt};
 ghost use Rattle.actions.specs.Reading.{actionOf};
 ghost use Rattle.conditioning.specs.Spans.{stretchIn, Covers};
@@ -18,24 +19,27 @@ ghost use Rattle.conditioning.specs.Marks.{Takes, MarksOnce, Markable, M
 
 const CCDEF: u8 = 15;
 
-// How many digits an action takes where `left` are left.
+// How many digits an action takes where `left` are left. Both are worked out before the test, so that no branch on the code is needed.
 fn width(a: ConditioningAction, prefix: usize, left: usize) -> usize
     ensures { λ r. ⌜ r ≡ width prefix left (actionOf a) ⌝ }
 {
-    if is_x(a) {
-        return left;
-    }
-    fixed_of(a, prefix)
+    let fixed = fixed_of(a, prefix);
+    if is_x(a) { left } else { fixed }
+}
+
+// The fewest digits that are enough for an action: an X action takes at least one.
+fn fewest(a: ConditioningAction, prefix: usize) -> usize
+    ensures { λ r. ⌜ r ≡ (if isX (actionOf a) then 1 else fixedOf prefix (actionOf a)) ⌝ }
+{
+    let fixed = fixed_of(a, prefix);
+    if is_x(a) { 1 } else { fixed }
 }
 
 // Too few digits are left for an action.
 fn meets_too_few(a: ConditioningAction, prefix: usize, left: usize) -> bool
     ensures { λ r. ⌜ r ≡ meetsTooFew prefix left (actionOf a) ⌝ }
 {
-    if is_x(a) {
-        return left == 0;
-    }
-    left < fixed_of(a, prefix)
+    left < fewest(a, prefix)
 }
 
 // SHORT: some action meets too few of n digits.
@@ -118,14 +122,19 @@ pub fn stretch_in<'a>(cas: &[u8], prefix: usize, digits: &'a [u8], v: u8) -> &'a
 // The places of a table of marks: one for each formatting code, of which conditioning sets the first ten, and place 0 for actions that take no value.
 pub const PLACES: usize = 17;
 
+// The value whose digits each conditioning code takes, four bits for a code, the lowest for code 0: those that it sets, but none for CCDEF. One number is no
+// lookup in memory.
+const VALUES_TAKEN: u64 = 0x06543a9875432100;
+
 // The value whose digits an action takes; 0 for IGN, and for CCDEF, which takes none.
 fn value_taken(a: ConditioningAction) -> usize
     ensures { λ r. ⌜ Takes (actionOf a) r ⌝ }
 {
-    if a.code == CCDEF {
+    let code = a.code;
+    if 15 < code {
         return 0;
     }
-    wide(value_of(a.code))
+    (VALUES_TAKEN >> (4 * code)) as usize % 16
 }
 
 // Marks a value that is not marked yet.

@@ -1,24 +1,24 @@
--- CCDEF takes none, and any other action its value.
-use mathlib.Core.Path.{_∙_}
-use borrow.Author.Needs.{needs}
+-- By the table of the codes.
 use Rattle.actions.specs.Reading.{actionOf}
-use Rattle.conditioning.proofs.Marking.{takes-none, takes-one}
+use Rattle.conditioning.proofs.Marking.{takes-listed, takes-unlisted}
+use borrow.Author.Needs.{needs}
 use Rattle.conditioning.proofs.value_taken.Statement.{statement}
 use Rattle.conditioning.proofs.value_taken.Tie as tie
 
 returns : tie.Need-returns
-returns c = takes-none (actionOf (c .before .before .args .a)) (c .if1 .taken)
+returns c = takes-unlisted (actionOf (c .before .args .a)) (c .if1 .taken)
 
-value-of-requires : tie.Need-value-of-requires
-value-of-requires c κs = search needs
+mul-result : tie.Need-mul-result
+mul-result c = search needs
 
-wide-requires : tie.Need-wide-requires
-wide-requires c κs = search needs
+cast-result : tie.Need-cast-result
+cast-result c = search needs
+
+shr-result : tie.Need-shr-result
+shr-result c = search needs
 
 returns-2 : tie.Need-returns-2
-returns-2 c =
-    let args = c .before .before .before .before .args in
-    takes-one (actionOf (args .a)) _ (c .before .before .if1 .left) (c .wide .ensures .is ∙ c .before .value-of .ensures)
+returns-2 c = takes-listed (actionOf (c .before .args .a)) (c .if1 .left)
 
 pub value-taken-spec : {M : Type 1} → statement M
-value-taken-spec = tie.close (tie.spec returns value-of-requires wide-requires returns-2)
+value-taken-spec = tie.close (tie.spec returns mul-result cast-result shr-result returns-2)
