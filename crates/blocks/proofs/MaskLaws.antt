@@ -41,7 +41,7 @@ bits-next a b x m h k = ap (λ (y : ℕ). eqb y 0) (and-block 8 a b x m h k) ∙
         let z : p ≡ 0 = eqb→eq p 0 (and-right (eqb q 0) (eqb p 0) t) in
         true-is (eqb (p * 256 + q) 0) (eq-eqb (p * 256 + q) 0 (omega arith)))
 
--- bytes are disjoint if their numbers are
+-- bytes are disjoint exactly if their numbers are
 bits-disjoint : (xs ms : List ℕ) → length ms ≡ length xs → Bytes xs → Bytes ms → eqb (bitAnd (littleEndian xs) (littleEndian ms)) 0 ≡ disjoint xs ms
 unfolding littleEndian
 bits-disjoint [] [] l h k = refl

@@ -19,7 +19,7 @@ ghost use Rattle.conditioning.specs.Marks.{Takes, MarksOnce, Markable, M
 
 const CCDEF: u8 = 15;
 
-// How many digits an action takes where `left` are left. Both are worked out before the test, so that no branch on the code is needed.
+// How many digits an action takes where `left` are left. The fixed count is worked out before the test, so that the compiler can pick one of the two without a jump.
 fn width(a: ConditioningAction, prefix: usize, left: usize) -> usize
     ensures { λ r. ⌜ r ≡ width prefix left (actionOf a) ⌝ }
 {
@@ -122,8 +122,8 @@ pub fn stretch_in<'a>(cas: &[u8], prefix: usize, digits: &'a [u8], v: u8) -> &'a
 // The places of a table of marks: one for each formatting code, of which conditioning sets the first ten, and place 0 for actions that take no value.
 pub const PLACES: usize = 17;
 
-// The value whose digits each conditioning code takes, four bits for a code, the lowest for code 0: those that it sets, but none for CCDEF. One number is no
-// lookup in memory.
+// The value whose digits each conditioning code takes, four bits for a code, the lowest for code 0: those that it sets, but none for CCDEF. A number and
+// not an array, so that nothing is read from memory.
 const VALUES_TAKEN: u64 = 0x06543a9875432100;
 
 // The value whose digits an action takes; 0 for IGN, and for CCDEF, which takes none.
@@ -149,7 +149,8 @@ fn mark(v: usize, start: usize, count: usize, starts: &mut [u8], counts: &mut [u
     counts[v] = count as u8;
 }
 
-// Whether some action meets too few of n digits; where none does, marks where the digits of each value lie. The first digit has place `first`, which is not 0.
+// Whether some action meets too few of n digits; where none does, marks where the digits of each value lie; else nothing is said of the table. The first
+// digit has place `first`, which is not 0.
 pub fn mark_spans(
     cas: &[u8],
     prefix: usize,

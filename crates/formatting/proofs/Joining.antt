@@ -18,9 +18,16 @@ use Rattle.meaning.proofs.Tests.{is-true}
 use Rattle.services.specs.declared.Served.{Served}
 use Rattle.services.specs.Stages.{stageOf, stageAfter, ServedAs}
 use Rattle.formatting.proofs.Values.{valueSent}
-use Rattle.formatting.specs.Joins.{outgoing, JoinsInto}
+use Rattle.formatting.specs.Joins.{JoinsInto}
 
 -- WHICH VALUES
+
+-- document 01's outgoing digits: "the FA values joined in order", by the stage that these FAs make
+unfoldable pub outgoing : List ℕ → List ℕ → List ℕ → List ℕ → ℕ → Served → List ℕ → List ℕ
+outgoing settings lookup digits cas prefix served fas =
+    join
+    (valueToSend (settingsOf settings) (valueFrom (settingsOf settings .country) prefix digits (casOf cas))
+    (stageOf (settingsOf settings) (lookupOf lookup) (codesOf fas) served)) (codesOf fas)
 
 -- two values that agree on every code of a list join alike
 pub join-same : (u v : ℕ → List ℕ) (cs : List ℕ) → ((f : ℕ) → T (contains f cs) → u f ≡ v f) → join u cs ≡ join v cs

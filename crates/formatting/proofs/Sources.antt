@@ -11,7 +11,7 @@ use Rattle.meaning.specs.Actions.{codesOf}
 use Rattle.services.specs.declared.Served.{Served}
 use Rattle.blocks.proofs.OverLaws.{array-behind, length-over}
 use Rattle.formatting.specs.Sources.{settingsIn, lookupIn, Formattable}
-use Rattle.formatting.specs.Tables.{Table, valueAt, takenValue, servedOver, valueMade}
+use Rattle.formatting.specs.Tables.{Table, valueAt, conditionedValue, servedOver, valueMade}
 use Rattle.formatting.specs.Joins.{outgoingBy, JoinsInto}
 use Rattle.formatting.proofs.Places.{sourceOf, source-is, source-long, source-settings, source-part}
 use Rattle.formatting.proofs.Joining.{join-same, joins-as}
@@ -55,7 +55,7 @@ module _ {settings body starts counts : List ℕ} (f : Formattable settings body
 
   -- each value is the same in the source and in the body
   values-same : (cas : List ℕ) (served : Served) (v : ℕ) → valueMade (settingsIn source) source cas starts counts served v ≡ valueMade settings body cas starts counts served v
-  unfolding servedOver takenValue
+  unfolding servedOver conditionedValue
   values-same cas served v = rw (settings-is, lookup-is, value-is v)
 
   pub joined-made : (cas : List ℕ) (served : Served) (fas : List ℕ) {out : List ℕ} {most r : ℕ} → JoinsInto (outgoingBy (settingsIn source) source cas starts counts served fas) most out r

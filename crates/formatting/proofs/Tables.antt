@@ -19,11 +19,11 @@ use Rattle.services.specs.declared.Served.{Served}
 use Rattle.conditioning.specs.Marks.{Marks, MarksAll}
 use Rattle.formatting.specs.Values.{serviceValue}
 use Rattle.formatting.specs.Sources.{settingsIn, lookupIn, digitsIn, Formattable, Lies}
-use Rattle.formatting.specs.Tables.{Table, valueAt, Has, placeOf, sentAt, takenValue, servedOver, valueMade}
-use Rattle.formatting.specs.Joins.{outgoing, outgoingBy}
+use Rattle.formatting.specs.Tables.{Table, valueAt, Has, placeOf, sentAt, conditionedValue, servedOver, valueMade}
+use Rattle.formatting.specs.Joins.{outgoingBy}
 use Rattle.formatting.proofs.Values.{valueSent, sent-conditioned, sent-served}
 use Rattle.formatting.proofs.Places.{part-within, digits-long}
-use Rattle.formatting.proofs.Joining.{join-same, outgoing-is}
+use Rattle.formatting.proofs.Joining.{outgoing, join-same, outgoing-is}
 
 -- A VALUE PUT IN
 
@@ -62,8 +62,8 @@ module _ {source starts counts : List ℕ} (t : Table source starts counts) (u :
 
 module _ {source starts counts : List ℕ} (t : Table source starts counts) (cas : List ℕ) where
   -- no CCDEF: every value stays
-  pub country-kept : any isCCDEF (casOf cas) ≡ false → Has (takenValue (settingsIn source) source cas starts counts) source starts counts
-  unfolding takenValue
+  pub country-kept : any isCCDEF (casOf cas) ≡ false → Has (conditionedValue (settingsIn source) source cas starts counts) source starts counts
+  unfolding conditionedValue
   country-kept d = record { table = t; values = λ v h. rw d (go v (eqb v CC)) }
     where
       go : (v : ℕ) (b : Bool) → valueAt source starts counts v ≡ (if b && false then settingsOf (settingsIn source) .country else valueAt source starts counts v)
@@ -72,8 +72,8 @@ module _ {source starts counts : List ℕ} (t : Table source starts counts) (cas
 
   -- CCDEF: CC is the default, and any other value stays
   pub country-put : any isCCDEF (casOf cas) ≡ true → (r : Span) → Lies (digitsOf (part 73 4 source)) source r
-      → Has (takenValue (settingsIn source) source cas starts counts) source (set starts 1 (r .start)) (set counts 1 (r .count))
-  unfolding takenValue settingsOf
+      → Has (conditionedValue (settingsIn source) source cas starts counts) source (set starts 1 (r .start)) (set counts 1 (r .count))
+  unfolding conditionedValue settingsOf
   country-put d r lies = record { table = table-put t 1 (omega arith) r lies; values = λ v h. rw d (go v (eqb v CC) refl) }
     where
       go : (v : ℕ) (b : Bool) → eqb v CC ≡ b
@@ -112,7 +112,7 @@ module _ {taken : ℕ → List ℕ} {served : Served} {source starts counts : Li
   serving-all h = record { table = g .table; values = λ v k. g .values v (omega arith) }
 
 -- over a table that has the values of conditioning
-pub has-made : (source cas starts counts : List ℕ) {starts' counts' starts'' counts'' : List ℕ} (served : Served) → Has (takenValue (settingsIn source) source cas starts counts) source starts' counts'
+pub has-made : (source cas starts counts : List ℕ) {starts' counts' starts'' counts'' : List ℕ} (served : Served) → Has (conditionedValue (settingsIn source) source cas starts counts) source starts' counts'
     → Has (servedOver (settingsIn source) (lookupIn source) served (valueAt source starts' counts')) source starts'' counts''
     → Has (valueMade (settingsIn source) source cas starts counts served) source starts'' counts''
 unfolding servedOver
@@ -120,7 +120,7 @@ has-made source cas starts counts {starts'} {counts'} served a b =
     record { table = b .table; values = λ f h. b .values f h ∙ go f h (leb f 10) }
   where
     go : (f : ℕ) → f ≤ 16 → (q : Bool) → (if q then valueAt source starts' counts' f else serviceValue (settingsIn source) (lookupIn source) served f)
-        ≡ (if q then takenValue (settingsIn source) source cas starts counts f else serviceValue (settingsIn source) (lookupIn source) served f)
+        ≡ (if q then conditionedValue (settingsIn source) source cas starts counts f else serviceValue (settingsIn source) (lookupIn source) served f)
     go f h true = a .values f h
     go f h false = refl
 
@@ -205,8 +205,8 @@ marks-formattable settings body s long few a b m =
 
 module _ (settings body cas : List ℕ) {starts counts : List ℕ} {prefix n : ℕ} (long : length body ≡ 73) (few : n ≤ 32) (m : MarksAll prefix n 2 (casOf cas) starts counts) where
   -- the values are those of document 01
-  taken-is : (v : ℕ) → 0 < v → takenValue settings body cas starts counts v ≡ valueFrom (settingsOf settings .country) prefix (digitsIn n body) (casOf cas) v
-  unfolding takenValue valueFrom
+  taken-is : (v : ℕ) → 0 < v → conditionedValue settings body cas starts counts v ≡ valueFrom (settingsOf settings .country) prefix (digitsIn n body) (casOf cas) v
+  unfolding conditionedValue valueFrom
   taken-is v h = go (eqb v CC && any isCCDEF (casOf cas))
     where
       go : (b : Bool) → (if b then settingsOf settings .country else valueAt body starts counts v)
@@ -220,6 +220,6 @@ module _ (settings body cas : List ℕ) {starts counts : List ℕ} {prefix n : �
       join-same _ _ (codesOf fas) (λ f t. go f (codes-positive fas f t) (leb f 10) refl) ∙ sym (outgoing-is settings (lookupIn body) (digitsIn n body) cas prefix served fas)
     where
       go : (f : ℕ) → 0 < f → (b : Bool) → leb f 10 ≡ b
-          → (if b then takenValue settings body cas starts counts f else serviceValue settings (lookupIn body) served f) ≡ valueSent settings (lookupIn body) (digitsIn n body) cas prefix served f
+          → (if b then conditionedValue settings body cas starts counts f else serviceValue settings (lookupIn body) served f) ≡ valueSent settings (lookupIn body) (digitsIn n body) cas prefix served f
       go f h true e = taken-is f h ∙ sent-conditioned settings (lookupIn body) (digitsIn n body) cas prefix served f (leb-true f 10 e)
       go f h false e = sent-served settings (lookupIn body) (digitsIn n body) cas prefix served f (leb-false f 10 e)

@@ -6,21 +6,17 @@ use mathlib.Core.List.{List, [], _∷_}
 use lib.ListN.{length, take}
 use lib.Dec.{leb}
 use Rattle.meaning.specs.Basics.{if_then_else_, writtenOver}
-use Rattle.meaning.specs.Settings.{settingsOf, lookupOf}
+use Rattle.meaning.specs.Settings.{settingsOf}
 use Rattle.meaning.specs.Actions.{CC, AC, SN, DN, ZN, CA, casOf, codesOf}
 use Rattle.meaning.specs.Groups.{isSet}
 use Rattle.meaning.specs.Conditioning.{short, valueFrom, conditionedFrom}
-use Rattle.meaning.specs.Services.{valueToSend, join}
+use Rattle.meaning.specs.Services.{join}
 use Rattle.services.specs.declared.Served.{Served}
-use Rattle.services.specs.Stages.{stageOf}
 use Rattle.formatting.specs.Tables.{valueMade}
 
--- document 01's outgoing digits: "the FA values joined in order", by the stage that these FAs make
-unfoldable pub outgoing : List ℕ → List ℕ → List ℕ → List ℕ → ℕ → Served → List ℕ → List ℕ
-outgoing settings lookup digits cas prefix served fas =
-    join
-    (valueToSend (settingsOf settings) (valueFrom (settingsOf settings .country) prefix digits (casOf cas))
-    (stageOf (settingsOf settings) (lookupOf lookup) (codesOf fas) served)) (codesOf fas)
+-- the outgoing digits, joined by a table of what conditioning took of the number's digits; that they are document 01's is `marked-outgoing` in proofs/Tables.antt
+abbrev pub outgoingBy : List ℕ → List ℕ → List ℕ → List ℕ → List ℕ → Served → List ℕ → List ℕ
+outgoingBy settings body cas starts counts served fas = join (valueMade settings body cas starts counts served) (codesOf fas)
 
 -- document 01's conditioned number
 unfoldable pub conditioned : List ℕ → List ℕ → List ℕ → ℕ → List ℕ
@@ -29,10 +25,6 @@ conditioned settings digits cas prefix = conditionedFrom (casOf cas) (valueFrom 
 -- the values that it joins: "ZN, or CC then DN, or CC then AC then SN"
 unfoldable pub conditionedCodes : List CA → List ℕ
 conditionedCodes xs = if isSet ZN xs then (ZN ∷ []) else if isSet DN xs then (CC ∷ DN ∷ []) else (CC ∷ AC ∷ SN ∷ [])
-
--- the same joined by a table of what conditioning took of the number's digits
-abbrev pub outgoingBy : List ℕ → List ℕ → List ℕ → List ℕ → List ℕ → Served → List ℕ → List ℕ
-outgoingBy settings body cas starts counts served fas = join (valueMade settings body cas starts counts served) (codesOf fas)
 
 -- the settings, and digits that are enough for the conditioning actions
 pub record Conditionable (settings digits cas : List ℕ) (prefix : ℕ) : Type 0 where

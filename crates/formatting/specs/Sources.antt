@@ -6,14 +6,15 @@ use lib.ListN.{length, getD}
 use Rattle.meaning.specs.Basics.{part}
 use Rattle.meaning.specs.declared.Span.{Span}
 
--- the settings that a source has, and the lookup that it has, as the body at its front does
+-- the settings that a source has
 abbrev pub settingsIn : List ℕ → List ℕ
 settingsIn source = part 73 36 source
 
+-- the lookup that a source has, and a body likewise
 abbrev pub lookupIn : List ℕ → List ℕ
 lookupIn source = part 34 39 source
 
--- the first n digits of the number, likewise
+-- the first n digits of the number, of either
 abbrev pub digitsIn : ℕ → List ℕ → List ℕ
 digitsIn n source = part 2 n source
 

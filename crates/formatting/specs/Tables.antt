@@ -25,7 +25,7 @@ pub record Table (source starts counts : List ℕ) : Type 0 where
 abbrev pub valueAt : List ℕ → List ℕ → List ℕ → ℕ → List ℕ
 valueAt source starts counts v = part (getD starts v 0) (getD counts v 0) source
 
--- a table that has a value for each FA
+-- a table that has a value for each code up to the last FA's
 pub record Has (value : ℕ → List ℕ) (source starts counts : List ℕ) : Type 0 where
   pub table : Table source starts counts
   pub values : (f : ℕ) → f ≤ 16 → valueAt source starts counts f ≡ value f
@@ -38,11 +38,11 @@ placeOf starts counts f = if leb f 16 then record { start = getD starts f 0; cou
 unfoldable pub sentAt : List ℕ → List ℕ → List ℕ → ℕ → List ℕ
 sentAt source starts counts f = if leb f 16 then valueAt source starts counts f else []
 
--- THE VALUES, over bytes that have the number, its lookup and the settings, and a table of what conditioning took of the number
+-- THE VALUES, over the settings, bytes that have the number and its lookup (a body or a source), and a table of what conditioning took of the number
 
 -- "CCDEF takes none and sets CC to the default"
-unfoldable pub takenValue : List ℕ → List ℕ → List ℕ → List ℕ → List ℕ → ℕ → List ℕ
-takenValue settings source cas starts counts v =
+unfoldable pub conditionedValue : List ℕ → List ℕ → List ℕ → List ℕ → List ℕ → ℕ → List ℕ
+conditionedValue settings source cas starts counts v =
     if eqb v CC && any isCCDEF (casOf cas) then settingsOf settings .country else valueAt source starts counts v
 
 -- the values of the service actions and the delimiters are those behind the last that conditioning sets
@@ -51,4 +51,4 @@ servedOver settings lookup served taken f = if leb f 10 then taken f else servic
 
 -- so the value of each FA
 abbrev pub valueMade : List ℕ → List ℕ → List ℕ → List ℕ → List ℕ → Served → ℕ → List ℕ
-valueMade settings source cas starts counts served = servedOver settings (lookupIn source) served (takenValue settings source cas starts counts)
+valueMade settings source cas starts counts served = servedOver settings (lookupIn source) served (conditionedValue settings source cas starts counts)

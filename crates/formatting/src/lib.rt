@@ -18,7 +18,7 @@ ghost use Rattle.meaning.specs.Conditioning.{valueFrom};
 ghost use Rattle.meaning.specs.Services.{join};
 ghost use Rattle.formatting.specs.Values.{digitsIf, rnOf, spOf, serviceValue};
 ghost use Rattle.formatting.specs.Sources.{settingsIn, lookupIn, Formattable, Held, Lies};
-ghost use Rattle.formatting.specs.Tables.{Table, valueAt, Has, placeOf, sentAt, takenValue, servedOver, valueMade};
+ghost use Rattle.formatting.specs.Tables.{Table, valueAt, Has, placeOf, sentAt, conditionedValue, servedOver, valueMade};
 ghost use Rattle.formatting.specs.Joins.{conditioned, conditionedCodes, outgoingBy, Conditionable, Writes, JoinsInto};
 
 const CC: u8 = 1;
@@ -51,9 +51,7 @@ const CCDEF: u8 = 15;
 // The bytes of a source: behind the settings, room for a block that is taken whole.
 const SOURCE_BYTES: usize = 144;
 
-// Where a source has the digits of the number, the kind of its lookup, and each string of the lookup and of the settings.
-const DIGITS: usize = 2;
-
+// Where a source has the kind of the lookup, and each string of the lookup and of the settings.
 const KIND: usize = 34;
 
 const ENTITY: usize = 35;
@@ -153,10 +151,10 @@ fn service_value(source: &[u8], served: Served, f: u8) -> Span
 // The place of CC in a table: its number.
 const CC_PLACE: usize = 1;
 
-// CC by CCDEF is the default country code.
+// Puts in the default country code where CCDEF sets CC to it.
 fn place_country(source: &[u8], cas: &[u8], starts: &mut [u8], counts: &mut [u8])
     requires { ⌜ Table (now source) (now starts) (now counts) ⌝ }
-    ensures { λ _. ⌜ Has (takenValue (settingsIn (now (source .entry))) (now (source .entry)) (now (cas .entry)) (now (starts .entry)) (now (counts .entry))) (now (source .entry)) (now (starts .exit)) (now (counts .exit)) ⌝ }
+    ensures { λ _. ⌜ Has (conditionedValue (settingsIn (now (source .entry))) (now (source .entry)) (now (cas .entry)) (now (starts .entry)) (now (counts .entry))) (now (source .entry)) (now (starts .exit)) (now (counts .exit)) ⌝ }
 {
     if has_code(cas, CCDEF) {
         let country = string_at(source, COUNTRY, 3);
@@ -165,7 +163,7 @@ fn place_country(source: &[u8], cas: &[u8], starts: &mut [u8], counts: &mut [u8]
     }
 }
 
-// The values behind those that conditioning sets.
+// Puts in the values behind those that conditioning sets.
 fn place_services(source: &[u8], served: Served, starts: &mut [u8], counts: &mut [u8])
     requires { ⌜ Table (now source) (now starts) (now counts) ⌝ }
     ensures { λ _. ⌜ Has (servedOver (settingsIn (now (source .entry))) (lookupIn (now (source .entry))) served (valueAt (now (source .entry)) (now (starts .entry)) (now (counts .entry)))) (now (source .entry)) (now (starts .exit)) (now (counts .exit)) ⌝ }
@@ -180,7 +178,7 @@ fn place_services(source: &[u8], served: Served, starts: &mut [u8], counts: &mut
     }
 }
 
-// Where the value of each formatting action lies.
+// Puts in every value that conditioning does not take of the number.
 fn place_values(source: &[u8], cas: &[u8], served: Served, starts: &mut [u8], counts: &mut [u8])
     requires { ⌜ Table (now source) (now starts) (now counts) ⌝ }
     ensures { λ _. ⌜ Has (valueMade (settingsIn (now (source .entry))) (now (source .entry)) (now (cas .entry)) (now (starts .entry)) (now (counts .entry)) served) (now (source .entry)) (now (starts .exit)) (now (counts .exit)) ⌝ }
@@ -250,7 +248,7 @@ fn join_placed(
     }
 }
 
-// The same by the table of a source that is whole but for the values of the service actions and the delimiters, and CC by CCDEF.
+// The same by a table that has what conditioning took of the number: CC by CCDEF, the values of the service actions and the delimiters are put in first.
 fn join_values(
     source: &[u8],
     cas: &[u8],

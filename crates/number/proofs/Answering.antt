@@ -20,8 +20,8 @@ use Rattle.meaning.specs.declared.Answered.{Answered}
 use Rattle.services.specs.declared.Served.{Served}
 use Rattle.services.specs.Stages.{stageAfter, ServedAnew, Serviceable}
 use Rattle.services.proofs.Going.{response-after, withheld-after, responded-after}
-use Rattle.formatting.specs.Joins.{outgoing, JoinsInto}
-use Rattle.formatting.proofs.Joining.{outgoing-after, joined-count, joined-few, joined-many}
+use Rattle.formatting.specs.Joins.{JoinsInto}
+use Rattle.formatting.proofs.Joining.{outgoing, outgoing-after, joined-count, joined-few, joined-many}
 use Rattle.formatting.specs.Sources.{lookupIn}
 use Rattle.number.specs.Answering.{countedAs, servedBy, finished, answerWith, givenBy, Answerable}
 use Rattle.number.specs.Promises.{HoldsAnswer, GivesAnswer}

@@ -1,7 +1,7 @@
 // RANGE of an opening's rooms and settings, and of a number: its class, its digits and its lookup.
 ghost use mathlib.Core.Path.{_≡_};
 ghost use lib.ListN.{length};
-ghost use Rattle.meaning.specs.Basics.{if_then_else_, all, within, isDigit};
+ghost use Rattle.meaning.specs.Basics.{if_then_else_, all, within};
 ghost use Rattle.meaning.specs.Settings.{isClass, roomsInRange, settingsInRange, entityInRange, asdOrGrnInRange, lookupInRange, numberInRange, dialledInRange};
 ghost use Rattle.blocks.specs.Places.{maskTable};
 use meaning::Class;
