@@ -1,6 +1,7 @@
 //! Writes a file of house records: a plan of 64 sets and RULES rules, then
 //! NUMBERS numbers. For RULES `any` each class that the numbers have has one
-//! rule, which fits any number, so that the choice costs least.
+//! rule, which fits any number. For `same` all numbers have one class, and one
+//! rule fits them all: what is chosen is always the same.
 //!
 //!     file RULES NUMBERS >FILE
 
@@ -13,7 +14,7 @@ mod made;
 
 use made::Made;
 use npp_reference::bodies::Kind;
-use std::io::{self, BufWriter, Write};
+use std::io::{self, Write};
 
 const SETS: u16 = 64;
 
@@ -22,15 +23,18 @@ fn main() -> io::Result<()> {
     let numbers = number(&argument(2));
     let mut made = match rules.as_str() {
         "any" => Made::any(SETS),
+        "same" => Made::same(SETS),
         rules => Made::full(SETS, number(rules) as u16),
     };
-    let mut output = BufWriter::new(io::stdout().lock());
-    output.write_all(&made.records())?;
+    let mut records = made.records();
     for _ in 0..numbers {
-        output.write_all(&[Kind::Number.byte()])?;
-        output.write_all(&made.number())?;
+        records.push(Kind::Number.byte());
+        records.extend(made.number());
     }
-    output.flush()
+    // At once: a file that is written in small parts lies in small pages of the
+    // system's cache, and is read more slowly.
+    io::stdout().lock().write_all(&records)?;
+    io::stdout().flush()
 }
 
 const USAGE: &str = "usage: file RULES NUMBERS";

@@ -91,6 +91,7 @@ fn main() {
     for rules in RULES {
         time_answer(&clock, rules);
     }
+    time_choice(&clock, "same", Made::same(SETS));
     time_choice(&clock, "any", Made::any(SETS));
     for rules in RULES {
         time_choice(&clock, &rules.to_string(), Made::full(SETS, rules));

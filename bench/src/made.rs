@@ -10,7 +10,6 @@ const SEED: u64 = 1;
 const LONGEST_PREFIX: usize = 8;
 /// Numbers whose length is not stated have 8 to 15 digits.
 const USUAL_LENGTH: (usize, usize) = (8, 15);
-/// How many of a hundred numbers begin as some rule asks.
 const FROM_A_RULE: usize = 92;
 
 pub struct Made {
@@ -18,6 +17,8 @@ pub struct Made {
     pub plan: Plan,
     /// In the order in which they were added.
     pub rules: Vec<(Filter, SetNumber)>,
+    /// How many of a hundred numbers begin as some rule asks.
+    from_a_rule: usize,
 }
 
 impl Made {
@@ -35,6 +36,7 @@ impl Made {
             random,
             plan,
             rules: Vec::new(),
+            from_a_rule: FROM_A_RULE,
         };
         while made.rules.len() < rules {
             made.try_rule();
@@ -49,8 +51,22 @@ impl Made {
     /// A plan of so many sets, with one rule for each class that the numbers
     /// have; it fits any number of that class.
     pub fn any(sets: u16) -> Made {
-        let mut made = Made::of(Rooms { sets, rules: 3 }, sets, 0);
-        for class in [Class::INTL, Class::NATL, Class::UNKNOWN] {
+        Made::fitting(sets, &[Class::INTL, Class::NATL, Class::UNKNOWN])
+    }
+
+    /// A plan of so many sets with one rule, and numbers that all meet it: what
+    /// is chosen is always the same.
+    pub fn same(sets: u16) -> Made {
+        let mut made = Made::fitting(sets, &[Class::NATL]);
+        made.from_a_rule = 100;
+        made
+    }
+
+    /// For each of these classes a rule that fits any number of it.
+    fn fitting(sets: u16, classes: &[Class]) -> Made {
+        let rules = classes.len() as u16;
+        let mut made = Made::of(Rooms { sets, rules }, sets, 0);
+        for &class in classes {
             while made.rules.iter().all(|(filter, _)| filter.class != class) {
                 let filter = Filter {
                     class,
@@ -108,7 +124,7 @@ impl Made {
 
     /// The body of a next number.
     pub fn number(&mut self) -> Vec<u8> {
-        let (class, called) = match self.random.percent(FROM_A_RULE) {
+        let (class, called) = match self.random.percent(self.from_a_rule) {
             true => self.number_of_a_rule(),
             false => self.any_number(),
         };
