@@ -7,6 +7,7 @@ ghost use Rattle.meaning.specs.Settings.{roomsInRange, settingsInRange};
 ghost use Rattle.buffer.specs.Slots.{slots};
 ghost use Rattle.filter.specs.Slots.{FilterBytes, RuleArea, ruleOf, rulesOf};
 ghost use Rattle.plan.specs.State.{soundOf};
+ghost use Rattle.blocks.specs.Places.{maskTable};
 ghost use Rattle.examiner.specs.Examined.{fixedPass, openingPasses, sizesPass, headerPasses, slotTest, setFits, ruleTest};
 ghost use Rattle.examiner.specs.Examined.{rising, areasPass, setArea, ruleArea, Areas, Sized};
 use meaning::Order;
@@ -132,11 +133,12 @@ fn fits_held(slot: &[u8], sets: &[u8], room: usize) -> bool
 }
 
 // Whether a rule slot that is held has a filter in range, nothing behind its set number, and a set that is held and fits it.
-fn rule_passes(slot: &[u8], sets: &[u8], room: usize) -> bool
+fn rule_passes(slot: &[u8], sets: &[u8], room: usize, masks: &[u8]) -> bool
     requires { ⌜ (length (now slot) ≡ 24) × (48 * room ≤ length (now sets)) ⌝ }
+    requires { ⌜ now masks ≡ maskTable ⌝ }
     ensures { λ r. ⌜ r ≡ ruleTest room (now (sets .entry)) (now (slot .entry)) ⌝ }
 {
-    if !filter::filter_in_range(slot) {
+    if !filter::filter_in_range_by(slot, masks) {
         return false;
     }
     if !buffer::all_zero(&slot[21..24]) {
@@ -145,21 +147,31 @@ fn rule_passes(slot: &[u8], sets: &[u8], room: usize) -> bool
     fits_held(slot, sets, room)
 }
 
-// Whether each of the rule slots that are held passes.
-fn rules_pass(sets: &[u8], room: usize, rules: &[u8], count: usize) -> bool
+// Whether each of the rule slots that are held passes, by a table of masks that is made once for them.
+fn rules_pass_by(sets: &[u8], room: usize, rules: &[u8], count: usize, masks: &[u8]) -> bool
     requires { ⌜ Areas room (now sets) count (now rules) ⌝ }
+    requires { ⌜ now masks ≡ maskTable ⌝ }
     ensures { λ r. ⌜ r ≡ all (ruleTest room (now (sets .entry))) (slots 24 count (now (rules .entry))) ⌝ }
 {
     let mut i = 0;
     while i < count {
         let a = RULE_BYTES * i;
         let e = a + RULE_BYTES;
-        if !rule_passes(&rules[a..e], sets, room) {
+        if !rule_passes(&rules[a..e], sets, room, masks) {
             return false;
         }
         i += 1;
     }
     true
+}
+
+fn rules_pass(sets: &[u8], room: usize, rules: &[u8], count: usize) -> bool
+    requires { ⌜ Areas room (now sets) count (now rules) ⌝ }
+    ensures { λ r. ⌜ r ≡ all (ruleTest room (now (sets .entry))) (slots 24 count (now (rules .entry))) ⌝ }
+{
+    let mut masks = [0xffu8; 64];
+    blocks::mask_digits(&mut masks);
+    rules_pass_by(sets, room, rules, count, &masks)
 }
 
 // Whether each rule stands before the next in listing order.

@@ -5,6 +5,7 @@ ghost use lib.ListN.{length, take, drop};
 ghost use Rattle.meaning.specs.Basics.{beginsWith};
 ghost use Rattle.meaning.specs.Filters.{filterOf, filterInRange, comparePrefixes, compareLengths, compareFilters};
 ghost use Rattle.meaning.specs.Answers.{orderingOf, setOf};
+ghost use Rattle.blocks.specs.Places.{maskTable};
 ghost use Rattle.filter.specs.Slots.{RULE-WIDTH, FILTER-WIDTH, FilterBytes, RuleArea, ruleOf, rulesOf};
 ghost use Rattle.filter.specs.Place.{filterPlace, placeGiven};
 use meaning::Class;
@@ -28,15 +29,15 @@ const DIGITS: usize = 2;
 
 const LENGTH: usize = 18;
 
-// Whether the bytes are a filter in range.
-pub fn filter_in_range(code: &[u8]) -> bool
-    requires { ⌜ FILTER-WIDTH ≤ length (now code) ⌝ }
+// Whether the bytes are a filter in range, by a table of masks that is made once for several filters.
+pub fn filter_in_range_by(code: &[u8], masks: &[u8]) -> bool
+    requires { ⌜ (FILTER-WIDTH ≤ length (now code)) × (now masks ≡ maskTable) ⌝ }
     ensures { λ r. ⌜ r ≡ filterInRange (take FILTER-WIDTH (now (code .entry))) ⌝ }
 {
     let ClassOf::Known(_) = Class::of(code[CLASS]) else {
         return false;
     };
-    if !blocks::digits_in_range(&code[PREFIX..LENGTH], 0, 16) {
+    if !blocks::digits_in_range_by(&code[PREFIX..LENGTH], 0, 16, masks) {
         return false;
     }
     let len = code[LENGTH];
@@ -47,6 +48,16 @@ pub fn filter_in_range(code: &[u8]) -> bool
         return true;
     }
     code[PREFIX] <= len
+}
+
+// The same for one filter.
+pub fn filter_in_range(code: &[u8]) -> bool
+    requires { ⌜ FILTER-WIDTH ≤ length (now code) ⌝ }
+    ensures { λ r. ⌜ r ≡ filterInRange (take FILTER-WIDTH (now (code .entry))) ⌝ }
+{
+    let mut masks = [0xffu8; 64];
+    blocks::mask_digits(&mut masks);
+    filter_in_range_by(code, &masks)
 }
 
 // Whether the digits begin with the prefix.

@@ -11,14 +11,14 @@ use borrow.Author.Needs.{needs}
 use Rattle.examiner.proofs.rule_passes.Statement.{statement}
 use Rattle.examiner.proofs.rule_passes.Tie as tie
 
-filter-in-range-requires : tie.Need-filter-in-range-requires
-filter-in-range-requires c κs = search needs
+filter-in-range-by-requires : tie.Need-filter-in-range-by-requires
+filter-in-range-by-requires c κs = search needs
 
 returns : tie.Need-returns
 unfolding ruleTest ruleOf
 returns c =
-    let a = c .before .before .before .before .args in
-    sym (all-false 0 (ruleTests (a .room) (a .sets .now) (a .slot .now)) (failed (c .before .filter-in-range .ensures) (c .if1 .taken)))
+    let a = c .before .before .before .before .before .args in
+    sym (all-false 0 (ruleTests (a .room) (a .sets .now) (a .slot .now)) (failed (c .before .filter-in-range-by .ensures) (c .if1 .taken)))
 
 sub-all-zero : tie.Need-sub-all-zero
 sub-all-zero c = search needs
@@ -35,14 +35,14 @@ all-zero-requires c κs = search needs
 returns-2 : tie.Need-returns-2
 unfolding ruleTest
 returns-2 c =
-    let a = c .before .before .before .before .before .before .before .args in
+    let a = c .before .before .before .before .before .before .before .before .args in
     sym (all-false 1 (ruleTests (a .room) (a .sets .now) (a .slot .now)) (failed (c .before .all-zero .ensures) (c .if2 .taken)))
 
 fits-held-requires : tie.Need-fits-held-requires
 fits-held-requires c κs =
-    let g = c .before .before .before .before .before .before .before in
-    let f = c .before .before .before .before .filter-in-range in
-    (g .pre, range-bytes (g .args .slot .now) (omega arith) (true-is _ (passed (f .ensures) (c .before .before .before .if1 .left))))
+    let g = c .before .before .before .before .before .before .before .before in
+    let f = c .before .before .before .before .filter-in-range-by in
+    (g .pre .0, range-bytes (g .args .slot .now) (omega arith) (true-is _ (passed (f .ensures) (c .before .before .before .if1 .left))))
 
 returns-3 : tie.Need-returns-3
 unfolding ruleTest ruleOf
@@ -50,7 +50,7 @@ returns-3 c =
     let d = c .before .before in
     c .fits-held .ensures
     ∙ sym (rw (
-      passed (d .before .before .before .filter-in-range .ensures) (d .before .before .if1 .left),
+      passed (d .before .before .before .filter-in-range-by .ensures) (d .before .before .if1 .left),
       passed (d .all-zero .ensures) (c .before .if2 .left),
       and-true,
     ))
@@ -59,7 +59,7 @@ pub rule-passes-spec : {M : Type 1} → statement M
 rule-passes-spec =
     tie.close
     (tie.spec
-    filter-in-range-requires
+    filter-in-range-by-requires
     returns
     sub-all-zero
     part-all-zero-start

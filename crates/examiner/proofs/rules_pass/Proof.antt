@@ -1,85 +1,30 @@
--- The slots before i have passed, so those from i on decide.
-use Prim.Native.Nat.{_≤_, _-_, zero-le}
-use mathlib.Core.Path.{refl, sym}
-use native.Mathlib.Omega.{arith}
-use borrow.Author.Tests.{not-true, not-false}
-use Rattle.buffer.specs.Slots.{slots}
-use Rattle.buffer.proofs.Passing.{Passed, slot-fail, slot-pass, slot-done}
-use Rattle.examiner.specs.Examined.{ruleTest}
+-- By the table that was made.
 use borrow.Author.Needs.{needs}
+use Rattle.blocks.proofs.MaskLaws.{masks-none}
 use Rattle.examiner.proofs.rules_pass.Statement.{statement}
 use Rattle.examiner.proofs.rules_pass.Tie as tie
 
-abbrev Inv-loop : tie.InvT-loop
-Inv-loop sets room rules count i₀ i = (i ≤ count) × Passed (ruleTest room sets) (slots 24 count rules) i
+slice-aggregate-mask-digits : tie.Need-slice-aggregate-mask-digits
+slice-aggregate-mask-digits c = search needs
 
-abbrev μ-loop : tie.MeasureT-loop
-μ-loop sets room rules count i₀ i = count - i
+mask-digits-requires : tie.Need-mask-digits-requires
+mask-digits-requires c κs = masks-none 64
 
-loop-holds : tie.Need-loop-holds Inv-loop μ-loop
-loop-holds c = (zero-le, refl)
+slice-aggregate-rules-pass-by : tie.Need-slice-aggregate-rules-pass-by
+slice-aggregate-rules-pass-by c = search needs
 
-mul-a : tie.Need-mul-a Inv-loop μ-loop
-mul-a c = search needs
+rules-pass-by-requires : tie.Need-rules-pass-by-requires
+rules-pass-by-requires c κs = search needs
 
-add-e : tie.Need-add-e Inv-loop μ-loop
-add-e c = search needs
-
-sub-rule-passes : tie.Need-sub-rule-passes Inv-loop μ-loop
-sub-rule-passes c = search needs
-
-part-rule-passes-start : tie.Need-part-rule-passes-start Inv-loop μ-loop
-part-rule-passes-start c = search needs
-
-part-rule-passes-end : tie.Need-part-rule-passes-end Inv-loop μ-loop
-part-rule-passes-end c = search needs
-
-rule-passes-requires : tie.Need-rule-passes-requires Inv-loop μ-loop
-rule-passes-requires c κs = search needs
-
-returns : tie.Need-returns Inv-loop μ-loop
-returns c =
-    let a = c .before .before .before .before .before .before .before .args in
-    let l = c .before .before .before .before .loop in
-    sym (slot-fail (ruleTest (a .room) (a .sets .now)) 24 (a .count) (l .i) (a .rules .now) _ (c .before .rule-passes .ensures)
-    (c .before .before .before .loop-test .taken) (l .inv .1) (not-true _ (c .if1 .taken)))
-
-add-i : tie.Need-add-i Inv-loop μ-loop
-add-i c = search needs
-
-loop-less : tie.Need-loop-less Inv-loop μ-loop
-loop-less c = search needs
-
-loop-again : tie.Need-loop-again Inv-loop μ-loop
-loop-again c =
-    let a = c .before .before .before .before .before .before .before .args in
-    let l = c .before .before .before .before .loop in (
-      omega arith,
-      slot-pass (ruleTest (a .room) (a .sets .now)) 24 (a .count) (l .i) (a .rules .now) _ (c .before .rule-passes .ensures)
-          (c .before .before .before .loop-test .taken) (l .inv .1) (not-false _ (c .if1 .left)),
-    )
-
-returns-2 : tie.Need-returns-2 Inv-loop μ-loop
-returns-2 c =
-    let a = c .before .before .before .before .args in
-    let l = c .before .loop in
-    sym (slot-done (ruleTest (a .room) (a .sets .now)) 24 (a .count) (l .i) (a .rules .now) (c .loop-test .left) (l .inv .1))
+returns : tie.Need-returns
+returns c = search needs
 
 pub rules-pass-spec : {M : Type 1} → statement M
 rules-pass-spec =
     tie.close
     (tie.spec
-    Inv-loop
-    μ-loop
-    loop-holds
-    mul-a
-    add-e
-    sub-rule-passes
-    part-rule-passes-start
-    part-rule-passes-end
-    rule-passes-requires
-    returns
-    add-i
-    loop-less
-    loop-again
-    returns-2)
+    slice-aggregate-mask-digits
+    mask-digits-requires
+    slice-aggregate-rules-pass-by
+    rules-pass-by-requires
+    returns)

@@ -1,85 +1,30 @@
--- Each answer is one law of the range, at what was read.
-use mathlib.Core.Path.{sym}
-use borrow.Author.Tests.{not-true, not-false}
-use Rattle.filter.proofs.FilterLaws.{range-class, range-prefix, range-long, range-any, range-stated}
+-- By the table that was made.
 use borrow.Author.Needs.{needs}
+use Rattle.blocks.proofs.MaskLaws.{masks-none}
 use Rattle.filter.proofs.filter_in_range.Statement.{statement}
 use Rattle.filter.proofs.filter_in_range.Tie as tie
 
-shared-slice-read-of : tie.Need-shared-slice-read-of
-shared-slice-read-of c = search needs
+slice-aggregate-mask-digits : tie.Need-slice-aggregate-mask-digits
+slice-aggregate-mask-digits c = search needs
 
-of-requires : tie.Need-of-requires
-of-requires c κs = search needs
+mask-digits-requires : tie.Need-mask-digits-requires
+mask-digits-requires c κs = masks-none 64
 
-enum-told : tie.Need-enum-told
-enum-told c = search needs
+slice-aggregate-filter-in-range-by : tie.Need-slice-aggregate-filter-in-range-by
+slice-aggregate-filter-in-range-by c = search needs
 
-enum-told-2 : tie.Need-enum-told-2
-enum-told-2 c = search needs
+filter-in-range-by-requires : tie.Need-filter-in-range-by-requires
+filter-in-range-by-requires c κs = search needs
 
 returns : tie.Need-returns
-returns c = sym (range-class (c .before .before .before .before .before .args .code .now) _ (c .before .before .of .ensures) (c .enum-told2 .given .1))
-
-sub-digits-in-range : tie.Need-sub-digits-in-range
-sub-digits-in-range c = search needs
-
-part-digits-in-range-start : tie.Need-part-digits-in-range-start
-part-digits-in-range-start c = search needs
-
-part-digits-in-range-end : tie.Need-part-digits-in-range-end
-part-digits-in-range-end c = search needs
-
-digits-in-range-requires : tie.Need-digits-in-range-requires
-digits-in-range-requires c κs = search needs
-
-returns-2 : tie.Need-returns-2
-returns-2 c =
-    let a = c .before .before .before .before .before .before .before .before .args in
-    sym (range-prefix (a .code .now) _ (c .before .digits-in-range .ensures) (not-true _ (c .if1 .taken)))
-
-shared-slice-read-len : tie.Need-shared-slice-read-len
-shared-slice-read-len c = search needs
-
-returns-3 : tie.Need-returns-3
-returns-3 c =
-    let a = c .before .before .before .before .before .before .before .before .before .before .args in
-    sym (range-long (a .code .now) _ (c .before .before .before .digits-in-range .ensures) (c .if2 .taken))
-
-returns-4 : tie.Need-returns-4
-returns-4 c =
-    let d = c .before .before .before .before in
-    let o = d .before .before .before .before in
-    sym (range-any (o .before .before .before .args .code .now) _ (d .digits-in-range .ensures) _ _ (o .of .ensures)
-    (d .before .before .enum-told .given .1) (not-false _ (c .before .before .before .if1 .left)) (c .before .if2 .left) (c .if3 .taken))
-
-shared-slice-read-result : tie.Need-shared-slice-read-result
-shared-slice-read-result c = search needs
-
-returns-5 : tie.Need-returns-5
-returns-5 c =
-    let d = c .before .before .before .before .before in
-    let o = d .before .before .before .before in
-    sym (range-stated (o .before .before .before .args .code .now) _ (d .digits-in-range .ensures) _ _ (o .of .ensures)
-    (d .before .before .enum-told .given .1) (not-false _ (c .before .before .before .before .if1 .left)) (c .before .before .if2 .left)
-    (c .before .if3 .left))
+returns c = search needs
 
 pub filter-in-range-spec : {M : Type 1} → statement M
 filter-in-range-spec =
     tie.close
     (tie.spec
-    shared-slice-read-of
-    of-requires
-    enum-told
-    enum-told-2
-    returns
-    sub-digits-in-range
-    part-digits-in-range-start
-    part-digits-in-range-end
-    digits-in-range-requires
-    returns-2
-    shared-slice-read-len
-    returns-3
-    returns-4
-    shared-slice-read-result
-    returns-5)
+    slice-aggregate-mask-digits
+    mask-digits-requires
+    slice-aggregate-filter-in-range-by
+    filter-in-range-by-requires
+    returns)
