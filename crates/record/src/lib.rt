@@ -12,6 +12,7 @@ ghost use Rattle.plan.specs.State.{soundOf, stateOf};
 ghost use Rattle.number.specs.Answering.{Known};
 ghost use Rattle.text.specs.Writes.{LONGEST, Writes};
 ghost use Rattle.run.specs.Runs.{InRun};
+ghost use Rattle.blocks.specs.Places.{maskTable};
 ghost use Rattle.record.specs.Turns.{listTurn, recordTurn};
 ghost use Rattle.record.specs.Promises.{lineOf, ReadPromise, LinePromise, openedAfter, CutPromise, StepPromise, AnyStepPromise};
 use meaning::Provisioned;
@@ -101,14 +102,14 @@ fn answer_line(plan: &[u8], body: &[u8], output: &mut [u8]) -> usize
 }
 
 // The line of a number.
-fn number_record(plan: &[u8], opened: bool, body: &[u8], output: &mut [u8]) -> usize
-    requires { ⌜ (soundOf (now plan) ≡ opened) × (length (now body) ≡ 73) × (LONGEST ≤ length (now output)) ⌝ }
+fn number_record(masks: &[u8], plan: &[u8], opened: bool, body: &[u8], output: &mut [u8]) -> usize
+    requires { ⌜ (soundOf (now plan) ≡ opened) × (length (now body) ≡ 73) × (LONGEST ≤ length (now output)) × (now masks ≡ maskTable) ⌝ }
     ensures { λ r. ⌜ Writes (numberLine (answer (stateOf (now (plan .entry))) 35 (now (body .entry)))) (now (output .entry)) (now (output .exit)) r ⌝ }
 {
     if !opened {
         return text::no_line(PLAN, output);
     }
-    if !settings::number_in_range(body) {
+    if !settings::number_in_range_by(masks, body) {
         return text::no_line(RANGE, output);
     }
     answer_line(plan, body, output)
@@ -151,12 +152,19 @@ fn list_record(plan: &[u8], run: Run, output: &mut [u8]) -> Line
 // A RECORD
 
 // A record that reads the plan: kinds 7, 8 and 9.
-fn read_record(plan: &[u8], run: Run, kind: u8, body: &[u8], output: &mut [u8]) -> Line
-    requires { ⌜ (soundOf (now plan) ≡ run .opened) × (7 ≤ kind) × (kind ≤ 9) × (length (now body) ≡ bodyLength kind) × (LONGEST ≤ length (now output)) ⌝ }
+fn read_record(
+    masks: &[u8],
+    plan: &[u8],
+    run: Run,
+    kind: u8,
+    body: &[u8],
+    output: &mut [u8],
+) -> Line
+    requires { ⌜ (soundOf (now plan) ≡ run .opened) × (7 ≤ kind) × (kind ≤ 9) × (length (now body) ≡ bodyLength kind) × (LONGEST ≤ length (now output)) × (now masks ≡ maskTable) ⌝ }
     ensures { λ r. ⌜ ReadPromise (recordTurn (stateOf (now (plan .entry))) (run .lines) kind (now (body .entry))) (now (plan .entry)) run (now (output .entry)) (now (output .exit)) r ⌝ }
 {
     if kind == NUMBER {
-        let answered = number_record(plan, run.opened, body, output);
+        let answered = number_record(masks, plan, run.opened, body, output);
         return line_of(NUMBER_BYTES, answered, run.opened, 0);
     }
     if kind == REFS {
@@ -195,14 +203,21 @@ fn call_record(plan: &mut [u8], run: Run, kind: u8, body: &[u8], output: &mut [u
 }
 
 // A whole record.
-fn whole_record(plan: &mut [u8], run: Run, kind: u8, body: &[u8], output: &mut [u8]) -> Line
-    requires { ⌜ InRun (now plan) (run .opened) × (kind ≤ 9) × (length (now body) ≡ bodyLength kind) × (LONGEST ≤ length (now output)) ⌝ }
+fn whole_record(
+    masks: &[u8],
+    plan: &mut [u8],
+    run: Run,
+    kind: u8,
+    body: &[u8],
+    output: &mut [u8],
+) -> Line
+    requires { ⌜ InRun (now plan) (run .opened) × (kind ≤ 9) × (length (now body) ≡ bodyLength kind) × (LONGEST ≤ length (now output)) × (now masks ≡ maskTable) ⌝ }
     ensures { λ r. ⌜ LinePromise (recordTurn (stateOf (now (plan .entry))) (run .lines) kind (now (body .entry))) (now (plan .entry)) (now (output .entry)) (now (plan .exit)) (now (output .exit)) r ⌝ }
 {
     if kind <= LAST_CALL {
         return call_record(plan, run, kind, body, output);
     }
-    read_record(plan, run, kind, body, output)
+    read_record(masks, plan, run, kind, body, output)
 }
 
 // A STEP
@@ -218,15 +233,17 @@ fn cut_record(ended: bool, output: &mut [u8]) -> Stepped
     Stepped::Ends(text::no_line(CUT, output))
 }
 
-// One step: a record of the input at hand, or a line of a listing, whose line goes to the front of the output. Whether the memory holds a sound plan is known.
-pub fn step_known(
+// One step: a record of the input at hand, or a line of a listing, whose line goes to the front of the output. Whether the memory holds a sound plan is known, and
+// the table of masks is made once for many steps.
+pub fn step_by(
+    masks: &[u8],
     plan: &mut [u8],
     run: Run,
     ended: bool,
     input: &[u8],
     output: &mut [u8],
 ) -> Stepped
-    requires { ⌜ InRun (now plan) (run .opened) ⌝ }
+    requires { ⌜ InRun (now plan) (run .opened) × (now masks ≡ maskTable) ⌝ }
     ensures { λ r. ⌜ StepPromise (now (plan .entry)) (run .lines) ended (now (input .entry)) (now (output .entry)) (now (plan .exit)) (now (output .exit)) r ⌝ }
 {
     if input.len() == 0 {
@@ -246,7 +263,23 @@ pub fn step_known(
     if input.len() < end {
         return cut_record(ended, output);
     }
-    Stepped::Wrote(whole_record(plan, run, kind, &input[1..end], output))
+    Stepped::Wrote(whole_record(masks, plan, run, kind, &input[1..end], output))
+}
+
+// The same for one step.
+pub fn step_known(
+    plan: &mut [u8],
+    run: Run,
+    ended: bool,
+    input: &[u8],
+    output: &mut [u8],
+) -> Stepped
+    requires { ⌜ InRun (now plan) (run .opened) ⌝ }
+    ensures { λ r. ⌜ StepPromise (now (plan .entry)) (run .lines) ended (now (input .entry)) (now (output .entry)) (now (plan .exit)) (now (output .exit)) r ⌝ }
+{
+    let mut masks = [0xffu8; 64];
+    blocks::mask_digits(&mut masks);
+    step_by(&masks, plan, run, ended, input, output)
 }
 
 // One step over any memory, any input and any output, with so many lines of a listing written already.

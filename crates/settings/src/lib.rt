@@ -121,20 +121,28 @@ fn lookup_in_range(lookup: &[u8], masks: &[u8]) -> bool
     asd_or_grn_in_range(kind, &lookup[28..39], masks)
 }
 
-// Whether the body of a number is in range.
-pub fn number_in_range(body: &[u8]) -> bool
-    requires { ⌜ length (now body) ≡ 73 ⌝ }
+// Whether the body of a number is in range, by a table of masks that is made once for many numbers.
+pub fn number_in_range_by(masks: &[u8], body: &[u8]) -> bool
+    requires { ⌜ (length (now body) ≡ 73) × (now masks ≡ maskTable) ⌝ }
     ensures { λ r. ⌜ r ≡ numberInRange (now (body .entry)) ⌝ }
 {
     if !is_class(body[0]) {
         return false;
     }
-    let mut masks = [0xffu8; 64];
-    blocks::mask_digits(&mut masks);
-    if !blocks::digits_in_range_by(&body[1..34], 0, 32, &masks) {
+    if !blocks::digits_in_range_by(&body[1..34], 0, 32, masks) {
         return false;
     }
-    lookup_in_range(&body[34..73], &masks)
+    lookup_in_range(&body[34..73], masks)
+}
+
+// The same for one number.
+pub fn number_in_range(body: &[u8]) -> bool
+    requires { ⌜ length (now body) ≡ 73 ⌝ }
+    ensures { λ r. ⌜ r ≡ numberInRange (now (body .entry)) ⌝ }
+{
+    let mut masks = [0xffu8; 64];
+    blocks::mask_digits(&mut masks);
+    number_in_range_by(&masks, body)
 }
 
 // Whether a class and digits that come as themselves are in range.

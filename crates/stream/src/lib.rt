@@ -3,6 +3,7 @@ ghost use mathlib.Core.Path.{_≡_};
 ghost use Prim.Native.Nat.{_+_, _≤_, _<_};
 ghost use lib.ListN.{length};
 ghost use Rattle.run.specs.Runs.{InRun};
+ghost use Rattle.blocks.specs.Places.{maskTable};
 ghost use Rattle.stream.specs.Pumps.{pumpedAs, PumpPromise};
 ghost use Rattle.stream.specs.Copies.{TakesOn, Handed, HandsOn};
 ghost use Rattle.record.specs.Promises.{start};
@@ -31,16 +32,23 @@ fn stopped(taken: usize, written: usize, run: Run, full: bool, over: bool) -> Pu
     }
 }
 
-// Takes steps over the input at hand until none can be taken.
-pub fn pump(plan: &mut [u8], run: Run, ended: bool, input: &[u8], output: &mut [u8]) -> Pumped
-    requires { ⌜ InRun (now plan) (run .opened) ⌝ }
+// Takes steps over the input at hand until none can be taken, by a table of masks.
+fn pump_by(
+    masks: &[u8],
+    plan: &mut [u8],
+    run: Run,
+    ended: bool,
+    input: &[u8],
+    output: &mut [u8],
+) -> Pumped
+    requires { ⌜ InRun (now plan) (run .opened) × (now masks ≡ maskTable) ⌝ }
     ensures { λ r. ⌜ PumpPromise (now (plan .entry)) run ended (now (input .entry)) (now (output .entry)) (now (plan .exit)) (now (output .exit)) r ⌝ }
 {
     let mut now = run;
     let mut at: usize = 0;
     let mut end: usize = 0;
     while end <= output.len() {
-        match record::step_known(plan, now, ended, &input[at..], &mut output[end..]) {
+        match record::step_by(masks, plan, now, ended, &input[at..], &mut output[end..]) {
             Stepped::Wrote(line) => {
                 at += line.taken;
                 end += line.written;
@@ -52,6 +60,16 @@ pub fn pump(plan: &mut [u8], run: Run, ended: bool, input: &[u8], output: &mut [
         }
     }
     stopped(at, end, now, false, false)
+}
+
+// The same; the table is made here, once for all the steps.
+pub fn pump(plan: &mut [u8], run: Run, ended: bool, input: &[u8], output: &mut [u8]) -> Pumped
+    requires { ⌜ InRun (now plan) (run .opened) ⌝ }
+    ensures { λ r. ⌜ PumpPromise (now (plan .entry)) run ended (now (input .entry)) (now (output .entry)) (now (plan .exit)) (now (output .exit)) r ⌝ }
+{
+    let mut masks = [0xffu8; 64];
+    blocks::mask_digits(&mut masks);
+    pump_by(&masks, plan, run, ended, input, output)
 }
 
 // THE FILES

@@ -14,11 +14,11 @@ same-length c = search needs
 
 returns : tie.Need-returns
 returns c =
-    let b = c .before .before .before .before .before .before .before .before in
+    let b = c .before .before .before .before .before .before .before .before .before in
     no-plan-line (b .args .plan .now) (b .args .body .now) (b .pre .1) (b .pre .0 ∙ not-true _ (c .before .before .before .before .if1 .taken)) (c .before .before .no-line .ensures)
 
-number-in-range-requires : tie.Need-number-in-range-requires
-number-in-range-requires c κs = search needs
+number-in-range-by-requires : tie.Need-number-in-range-by-requires
+number-in-range-by-requires c κs = search needs
 
 no-line-requires-2 : tie.Need-no-line-requires-2
 no-line-requires-2 c κs = search needs
@@ -28,14 +28,14 @@ same-length-2 c = search needs
 
 returns-2 : tie.Need-returns-2
 returns-2 c =
-    let b = c .before .before .before .before .before .before .before .before .before .before in
+    let b = c .before .before .before .before .before .before .before .before .before .before .before in
     out-of-range-line (b .args .plan .now) (b .args .body .now) (b .pre .1) (b .pre .0 ∙ not-false _ (c .before .before .before .before .before .before .if1 .left))
-    (sym (c .before .before .before .before .before .number-in-range .ensures) ∙ not-true _ (c .before .before .before .before .if2 .taken)) (c .before .before .no-line2 .ensures)
+    (sym (c .before .before .before .before .before .number-in-range-by .ensures) ∙ not-true _ (c .before .before .before .before .if2 .taken)) (c .before .before .no-line2 .ensures)
 
 answer-line-requires : tie.Need-answer-line-requires
 answer-line-requires c κs =
-    let b = c .before .before .before .before .before .before .before in
-    (number-known (b .args .plan .now) (b .args .body .now) (b .pre .1) (b .pre .0 ∙ not-false _ (c .before .before .before .if1 .left)) (sym (c .before .before .number-in-range .ensures) ∙ not-false _ (c .before .if2 .left)), b .pre .2)
+    let b = c .before .before .before .before .before .before .before .before in
+    (number-known (b .args .plan .now) (b .args .body .now) (b .pre .1) (b .pre .0 ∙ not-false _ (c .before .before .before .if1 .left)) (sym (c .before .before .number-in-range-by .ensures) ∙ not-false _ (c .before .if2 .left)), b .pre .2)
 
 same-length-3 : tie.Need-same-length-3
 same-length-3 c = search needs
@@ -50,7 +50,7 @@ number-record-spec =
     no-line-requires
     same-length
     returns
-    number-in-range-requires
+    number-in-range-by-requires
     no-line-requires-2
     same-length-2
     returns-2

@@ -9,8 +9,8 @@ use Rattle.record.proofs.read_record.Tie as tie
 number-record-requires : tie.Need-number-record-requires
 unfolding bodyLength
 number-record-requires c κs =
-    let b = c .before .before .before .before .before in
-    (b .pre .0, b .pre .3 ∙ ap bodyLength (c .before .if1 .taken), b .pre .4)
+    let b = c .before .before .before .before .before .before in
+    (b .pre .0, b .pre .3 ∙ ap bodyLength (c .before .if1 .taken), b .pre .4, b .pre .5)
 
 line-of-requires : tie.Need-line-of-requires
 line-of-requires c κs = search needs
@@ -20,13 +20,13 @@ same-length c = search needs
 
 returns : tie.Need-returns
 returns c =
-    let b = c .before .before .before .before .before .before .before .before .before in
+    let b = c .before .before .before .before .before .before .before .before .before .before in
     read-number (b .args .plan .now) (b .args .run) (b .args .kind) (b .args .body .now) (c .before .before .before .before .before .if1 .taken) (c .before .before .before .number-record .ensures) (c .line-of .ensures)
 
 refs-record-requires : tie.Need-refs-record-requires
 unfolding bodyLength
 refs-record-requires c κs =
-    let b = c .before .before .before .before .before .before in
+    let b = c .before .before .before .before .before .before .before in
     (b .pre .0, b .pre .3 ∙ ap bodyLength (c .before .if2 .taken), b .pre .4)
 
 line-of-requires-2 : tie.Need-line-of-requires-2
@@ -37,7 +37,7 @@ same-length-2 c = search needs
 
 returns-2 : tie.Need-returns-2
 returns-2 c =
-    let b = c .before .before .before .before .before .before .before .before .before .before in
+    let b = c .before .before .before .before .before .before .before .before .before .before .before in
     read-refs (b .args .plan .now) (b .args .run) (b .args .kind) (b .args .body .now) (c .before .before .before .before .before .if2 .taken) (c .before .before .before .refs-record .ensures) (c .line-of2 .ensures)
 
 list-record-requires : tie.Need-list-record-requires
@@ -48,7 +48,7 @@ same-length-3 c = search needs
 
 returns-3 : tie.Need-returns-3
 returns-3 c =
-    let b = c .before .before .before .before .before .before .before .before .before in
+    let b = c .before .before .before .before .before .before .before .before .before .before in
     read-list (b .args .plan .now) (b .args .run) (b .args .kind) (b .args .body .now) (b .pre .1) (b .pre .2) (c .before .before .before .before .before .if1 .left) (c .before .before .before .before .if2 .left)
     (c .before .before .list-record .ensures)
 

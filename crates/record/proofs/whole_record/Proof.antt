@@ -29,7 +29,7 @@ same-length-4 c = search needs
 
 returns-2 : tie.Need-returns-2
 returns-2 c =
-    let b = c .before .before .before .before .before .before .before .before .before in
+    let b = c .before .before .before .before .before .before .before .before .before .before in
     kept-line {t = recordTurn (stateOf (b .args .plan .now)) (b .args .run .lines) (b .args .kind) (b .args .body .now)} (b .pre .0 .state) (c .before .before .read-record .ensures)
 
 pub whole-record-spec : {M : Type 1} → statement M

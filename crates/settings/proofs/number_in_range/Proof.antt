@@ -1,23 +1,8 @@
--- Each answer is the test that failed, or the last one.
-use mathlib.Core.Path.{sym, _∙_}
-use mathlib.Core.Bool.{and-true}
+-- By the table that was made.
 use borrow.Author.Needs.{needs}
-use Rattle.meaning.specs.Settings.{numberRanges, numberInRange}
-use Rattle.meaning.proofs.Tests.{all-false}
-use Rattle.settings.proofs.Answers.{failed, passed}
 use Rattle.blocks.proofs.MaskLaws.{masks-none}
 use Rattle.settings.proofs.number_in_range.Statement.{statement}
 use Rattle.settings.proofs.number_in_range.Tie as tie
-
-shared-slice-read-is-class : tie.Need-shared-slice-read-is-class
-shared-slice-read-is-class c = search needs
-
-is-class-requires : tie.Need-is-class-requires
-is-class-requires c κs = search needs
-
-returns : tie.Need-returns
-unfolding numberInRange
-returns c = sym (all-false 0 (numberRanges (c .before .before .before .before .args .body .now)) (failed (c .before .is-class .ensures) (c .if1 .taken)))
 
 slice-aggregate-mask-digits : tie.Need-slice-aggregate-mask-digits
 slice-aggregate-mask-digits c = search needs
@@ -25,66 +10,21 @@ slice-aggregate-mask-digits c = search needs
 mask-digits-requires : tie.Need-mask-digits-requires
 mask-digits-requires c κs = masks-none 64
 
-sub-digits-in-range-by : tie.Need-sub-digits-in-range-by
-sub-digits-in-range-by c = search needs
+slice-aggregate-number-in-range-by : tie.Need-slice-aggregate-number-in-range-by
+slice-aggregate-number-in-range-by c = search needs
 
-part-digits-in-range-by-start : tie.Need-part-digits-in-range-by-start
-part-digits-in-range-by-start c = search needs
+number-in-range-by-requires : tie.Need-number-in-range-by-requires
+number-in-range-by-requires c κs = search needs
 
-part-digits-in-range-by-end : tie.Need-part-digits-in-range-by-end
-part-digits-in-range-by-end c = search needs
-
-slice-aggregate-digits-in-range-by : tie.Need-slice-aggregate-digits-in-range-by
-slice-aggregate-digits-in-range-by c = search needs
-
-digits-in-range-by-requires : tie.Need-digits-in-range-by-requires
-digits-in-range-by-requires c κs = search needs
-
-returns-2 : tie.Need-returns-2
-unfolding numberInRange
-returns-2 c = sym (all-false 1 (numberRanges (c .before .before .before .before .before .before .before .before .before .before .before .args .body .now)) (failed (c .before .digits-in-range-by .ensures) (c .if2 .taken)))
-
-sub-lookup-in-range : tie.Need-sub-lookup-in-range
-sub-lookup-in-range c = search needs
-
-part-lookup-in-range-start : tie.Need-part-lookup-in-range-start
-part-lookup-in-range-start c = search needs
-
-part-lookup-in-range-end : tie.Need-part-lookup-in-range-end
-part-lookup-in-range-end c = search needs
-
-slice-aggregate-lookup-in-range : tie.Need-slice-aggregate-lookup-in-range
-slice-aggregate-lookup-in-range c = search needs
-
-lookup-in-range-requires : tie.Need-lookup-in-range-requires
-lookup-in-range-requires c κs = search needs
-
-returns-3 : tie.Need-returns-3
-unfolding numberInRange
-returns-3 c =
-    let d = c .before .before .before .before in
-    let e = d .before .before .before .before .before .before in
-    c .lookup-in-range .ensures
-    ∙ sym (rw (passed (e .before .is-class .ensures) (e .if1 .left), passed (d .digits-in-range-by .ensures) (c .before .before .before .if2 .left), and-true))
+returns : tie.Need-returns
+returns c = search needs
 
 pub number-in-range-spec : {M : Type 1} → statement M
 number-in-range-spec =
     tie.close
     (tie.spec
-    shared-slice-read-is-class
-    is-class-requires
-    returns
     slice-aggregate-mask-digits
     mask-digits-requires
-    sub-digits-in-range-by
-    part-digits-in-range-by-start
-    part-digits-in-range-by-end
-    slice-aggregate-digits-in-range-by
-    digits-in-range-by-requires
-    returns-2
-    sub-lookup-in-range
-    part-lookup-in-range-start
-    part-lookup-in-range-end
-    slice-aggregate-lookup-in-range
-    lookup-in-range-requires
-    returns-3)
+    slice-aggregate-number-in-range-by
+    number-in-range-by-requires
+    returns)

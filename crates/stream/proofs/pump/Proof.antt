@@ -1,172 +1,38 @@
--- The steps that were taken extend every run of those that are left (`Going`).
-use Prim.Native.Nat.{_-_}
-use native.Mathlib.Omega.{arith}
-use lib.ListN.{length}
+-- By the table that was made.
 use borrow.Author.Needs.{needs}
-use Rattle.stream.proofs.Pumping.{Going, going-start, after-size, line-goes, line-takes, line-fits, line-less, wants-stops, full-stops, end-stops, end-fits}
+use Rattle.blocks.proofs.MaskLaws.{masks-none}
 use Rattle.stream.proofs.pump.Statement.{statement}
 use Rattle.stream.proofs.pump.Tie as tie
-use Rattle.stream.proofs.pump.Reads as reads
-use Rattle.stream.proofs.pump.Lts as lts
-use Rattle.record.proofs.step.Reads as step-reads
-use Rattle.stream.proofs.stopped.Reads as stopped-reads
 
-abbrev Inv-loop : tie.InvT-loop
-Inv-loop plan₀ ended input output₀ now₀ at₀ end₀ plan output now at end = Going plan₀ now₀ ended input output₀ plan now at end output
+slice-aggregate-mask-digits : tie.Need-slice-aggregate-mask-digits
+slice-aggregate-mask-digits c = search needs
 
-abbrev μ-loop : tie.MeasureT-loop
-μ-loop plan₀ ended input output₀ now₀ at₀ end₀ plan output now at end = length output₀ - end
+mask-digits-requires : tie.Need-mask-digits-requires
+mask-digits-requires c κs = masks-none 64
 
-loop-holds : tie.Need-loop-holds Inv-loop μ-loop
-loop-holds c =
-    let b = c .before .before .before in
-    going-start (b .args .plan .now) (b .args .run) (b .args .ended) (b .args .input .now) (b .args .output .now) (b .pre)
+slice-aggregate-pump-by : tie.Need-slice-aggregate-pump-by
+slice-aggregate-pump-by c = search needs
 
-sub-step-known : tie.Need-sub-step-known Inv-loop μ-loop
-sub-step-known c = search needs
+pump-by-requires : tie.Need-pump-by-requires
+pump-by-requires c κs = search needs
 
-part-step-known-start : tie.Need-part-step-known-start Inv-loop μ-loop
-part-step-known-start c = search needs
+same-length : tie.Need-same-length
+same-length c = search needs
 
-part-step-known-end : tie.Need-part-step-known-end Inv-loop μ-loop
-part-step-known-end c = search needs
-
-sub-step-known-2 : tie.Need-sub-step-known-2 Inv-loop μ-loop
-sub-step-known-2 c = search needs
-
-part-step-known-start-2 : tie.Need-part-step-known-start-2 Inv-loop μ-loop
-part-step-known-start-2 c = search needs
-
-part-step-known-end-2 : tie.Need-part-step-known-end-2 Inv-loop μ-loop
-part-step-known-end-2 c = search needs
-
-step-known-requires : tie.Need-step-known-requires Inv-loop μ-loop
-step-known-requires c κs = c .before .before .before .before .loop .inv .in-run
-
-enum-known-line : tie.Need-enum-known-line Inv-loop μ-loop
-enum-known-line c = search needs
-
-add-at : tie.Need-add-at Inv-loop μ-loop
-add-at c =
-    let s = c .before .before .before .before .before .before .before .before in
-    let most = line-takes (s .before .before .before .before .before .loop .inv) (s .step-known .ensures) (c .before .before .line .given .1) in
-    record { fits = omega (arith, most, c .before .before .before .before .before .before .before .before .before .before .before .before .before .before .before .before .before .good .1 .1 .1 .0) }
-
-add-end : tie.Need-add-end Inv-loop μ-loop
-add-end c =
-    let s = c .before .before .before .before .before .before .before .before .before in
-    let most = line-fits (s .before .before .before .before .before .loop .inv) (s .step-known .ensures) (c .before .before .before .line .given .1) in
-    record { fits = omega (arith, most, c .before .before .before .before .before .before .before .before .before .before .before .before .before .before .before .before .before .before .good .1 .1 .1 .1 .0) }
-
-loop-less : tie.Need-loop-less Inv-loop μ-loop
-loop-less c =
-    let s = c .before .before .before .before .before .before .before .before .before .before in
-    line-less (s .before .before .before .before .before .loop .inv) (s .step-known .ensures) (c .before .before .before .before .line .given .1)
-
-loop-again : tie.Need-loop-again Inv-loop μ-loop
-loop-again c =
-    let s = c .before .before .before .before .before .before .before .before .before .before in
-    line-goes (s .before .before .before .before .before .loop .inv) (s .step-known .ensures) (c .before .before .before .before .line .given .1)
-
-enum-told : tie.Need-enum-told Inv-loop μ-loop
-enum-told c = search needs
-
-stopped-requires : tie.Need-stopped-requires Inv-loop μ-loop
-stopped-requires c κs = search needs
-
-same-length : tie.Need-same-length Inv-loop μ-loop
-same-length c = let s = c .before .before .before .before .before .before .before in after-size (s .before .before .before .before .before .loop .inv) (s .step-known .ensures)
-
-same-length-2 : tie.Need-same-length-2 Inv-loop μ-loop
+same-length-2 : tie.Need-same-length-2
 same-length-2 c = search needs
 
-returns : tie.Need-returns Inv-loop μ-loop
-returns c = let s = c .before .before .before .before .before .before .before in rw (c .stopped .ensures) (wants-stops (s .before .before .before .before .before .loop .inv) (s .step-known .ensures) (c .before .enum-told .given .1))
-
-enum-told-2 : tie.Need-enum-told-2 Inv-loop μ-loop
-enum-told-2 c = search needs
-
-stopped-requires-2 : tie.Need-stopped-requires-2 Inv-loop μ-loop
-stopped-requires-2 c κs = search needs
-
-same-length-3 : tie.Need-same-length-3 Inv-loop μ-loop
-same-length-3 c = let s = c .before .before .before .before .before .before .before in after-size (s .before .before .before .before .before .loop .inv) (s .step-known .ensures)
-
-same-length-4 : tie.Need-same-length-4 Inv-loop μ-loop
-same-length-4 c = search needs
-
-returns-2 : tie.Need-returns-2 Inv-loop μ-loop
-returns-2 c = let s = c .before .before .before .before .before .before .before in rw (c .stopped2 .ensures) (full-stops (s .before .before .before .before .before .loop .inv) (s .step-known .ensures) (c .before .enum-told2 .given .1))
-
-enum-known-n : tie.Need-enum-known-n Inv-loop μ-loop
-enum-known-n c = search needs
-
-add-stopped : tie.Need-add-stopped Inv-loop μ-loop
-add-stopped c =
-    let s = c .before .before .before .before .before .before .before in
-    let most = end-fits (s .before .before .before .before .before .loop .inv) (s .step-known .ensures) (c .before .n .given .1) in
-    search (needs, most)
-
-stopped-requires-3 : tie.Need-stopped-requires-3 Inv-loop μ-loop
-stopped-requires-3 c κs = search needs
-
-same-length-5 : tie.Need-same-length-5 Inv-loop μ-loop
-same-length-5 c = let s = c .before .before .before .before .before .before .before .before in after-size (s .before .before .before .before .before .loop .inv) (s .step-known .ensures)
-
-same-length-6 : tie.Need-same-length-6 Inv-loop μ-loop
-same-length-6 c = search needs
-
-returns-3 : tie.Need-returns-3 Inv-loop μ-loop
-returns-3 c = let s = c .before .before .before .before .before .before .before .before in rw (c .stopped3 .ensures) (end-stops (s .before .before .before .before .before .loop .inv) (s .step-known .ensures) (c .before .before .n .given .1))
-
-stopped-requires-4 : tie.Need-stopped-requires-4 Inv-loop μ-loop
-stopped-requires-4 c κs = search needs
-
-same-length-7 : tie.Need-same-length-7 Inv-loop μ-loop
-same-length-7 c = search needs
-
-same-length-8 : tie.Need-same-length-8 Inv-loop μ-loop
-same-length-8 c = search needs
-
-returns-4 : tie.Need-returns-4 Inv-loop μ-loop
-returns-4 c = absurd (omega (arith, c .before .before .loop .inv .room, c .before .before .loop .inv .long))
+returns : tie.Need-returns
+returns c = search needs
 
 pub pump-spec : {M : Type 1} → statement M
 pump-spec =
     tie.close
     (tie.spec
-    Inv-loop
-    μ-loop
-    loop-holds
-    sub-step-known
-    part-step-known-start
-    part-step-known-end
-    sub-step-known-2
-    part-step-known-start-2
-    part-step-known-end-2
-    step-known-requires
-    enum-known-line
-    add-at
-    add-end
-    loop-less
-    loop-again
-    enum-told
-    stopped-requires
+    slice-aggregate-mask-digits
+    mask-digits-requires
+    slice-aggregate-pump-by
+    pump-by-requires
     same-length
     same-length-2
-    returns
-    enum-told-2
-    stopped-requires-2
-    same-length-3
-    same-length-4
-    returns-2
-    enum-known-n
-    add-stopped
-    stopped-requires-3
-    same-length-5
-    same-length-6
-    returns-3
-    stopped-requires-4
-    same-length-7
-    same-length-8
-    returns-4)
+    returns)
