@@ -11,5 +11,6 @@ pub mod Numbers
 pub mod ReadBack
 pub mod Listings
 pub mod History
+pub mod Ending
 pub mod Examples
 pub mod Computed

@@ -126,3 +126,29 @@ textFrom (suc fuel) s (k ∷ bytes) =
 -- the text of a whole file; "Plan memory isn't sound until an opening is accepted"; a record takes a byte at least
 unfoldable pub fileText : List ℕ → List ℕ
 fileText bytes = textFrom (length bytes) none bytes
+
+-- what ended reading: the refusal, KIND or CUT, or 0 where the file has come to its end; the place of that record's kind byte, or the file's end; and the plan that
+-- is left
+pub record End : Type 0 where
+  pub refusal : ℕ
+  pub place : ℕ
+  pub plan : Option Plan
+
+abbrev pub endHere : ℕ → Option Plan → End
+endHere refusal s = record { refusal = refusal; place = 0; plan = s }
+
+-- the same, with so many bytes before it
+abbrev pub endBehind : ℕ → End → End
+endBehind n e = record { refusal = e .refusal; place = n + e .place; plan = e .plan }
+
+abbrev pub endFrom : ℕ → Option Plan → List ℕ → End
+endFrom zero s bytes = endHere 0 s
+endFrom (suc fuel) s [] = endHere 0 s
+endFrom (suc fuel) s (k ∷ bytes) =
+    let rest : End = endFrom fuel (recordPlan s k (take (bodyLength k) bytes)) (drop (bodyLength k) bytes) in
+    if ltb 9 k then endHere KIND s else
+    if ltb (length bytes) (bodyLength k) then endHere CUT s else endBehind (1 + bodyLength k) rest
+
+-- "After KIND or CUT reading ends": where, and with what
+unfoldable pub fileEnd : List ℕ → End
+fileEnd bytes = endFrom (length bytes) none bytes
