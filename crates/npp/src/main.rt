@@ -1,5 +1,5 @@
 // The program: house records from the file that its one argument names, or from standard input, and their lines to standard output. A file that cannot be
-// opened, or a read or a write that fails, is named on standard error; a write to a pipe that nobody reads ends the program.
+// opened, a read or a write that fails, or a file that is too long, is named on standard error; a write to a pipe that nobody reads ends the program.
 use libc::STDERR_FILENO;
 use libc::STDIN_FILENO;
 use libc::STDOUT_FILENO;
@@ -9,9 +9,12 @@ use stream::Turned;
 fn report(turned: Turned, name: &[u8]) {
     match turned {
         Turned::Goes(_) => {}
-        Turned::Done => {}
-        Turned::NotRead => os::fail(name),
-        Turned::NotWritten => os::fail(b"standard output"),
+        Turned::Done(_) => {}
+        Turned::NotRead(_) => os::fail(name),
+        Turned::NotWritten(_) => os::fail(b"standard output"),
+        Turned::Spent(_) => {
+            io::write_all(STDERR_FILENO, b"npp: the file is too long\n");
+        }
     }
 }
 

@@ -7,6 +7,7 @@ use mathlib.Core.Option.{Option}
 use native.Mathlib.Omega.{arith}
 use lib.ListN.{length, take, drop, getD, length-drop}
 use lib.Seq.{take-at, length-take-le}
+use lib.Dec.{ltb, leb·suc-suc}
 use borrow.Author.Tests.{lt-ltb, le-ltb}
 use Rattle.meaning.specs.Basics.{if_then_else_, writtenOver}
 use Rattle.meaning.specs.Refusals.{KIND, CUT}
@@ -18,8 +19,8 @@ use Rattle.changes.specs.Promise.{memoryOf}
 use Rattle.run.proofs.RunLaws.{memory-kept}
 use Rattle.text.specs.Writes.{LONGEST, Writes}
 use Rattle.text.proofs.Lines.{front-is}
-use Rattle.record.specs.Turns.{Turn, wants, full, ends, recordTurn, turnAt, turn}
-use Rattle.record.specs.Promises.{turnOf, writtenBy, textOf, planAfter, OpenedRight, LinePromise, cutAnswer, cutText, CutPromise, StepPromise}
+use Rattle.record.specs.Turns.{Turn, wants, full, ends, recordTurn, turnAt, turn, isWhole}
+use Rattle.record.specs.Promises.{turnOf, writtenBy, textOf, planAfter, OpenedRight, LinePromise, lastOf, cutAnswer, cutText, CutPromise, StepPromise}
 use Rattle.record.specs.declared.Line.{Line}
 use Rattle.record.specs.declared.Stepped.{Stepped}
 use Rattle.record.specs.declared.Stepped.the-variants.{Wrote, Wants, Full, Ends}
@@ -29,13 +30,23 @@ use Rattle.record.specs.declared.Stepped.the-variants.{Wrote, Wants, Ful
 pub cut-wants : (ended : Bool) (out : List ℕ) → ended ≡ false → CutPromise ended out out Wants
 cut-wants ended out e = rw e (record { answer-is = refl; output-is = refl; inside = omega arith })
 
-pub cut-ends : {out last : List ℕ} {n : ℕ} (ended : Bool) → ended ≡ true → Writes (noLine CUT) out last n → CutPromise ended out last (Ends n)
-cut-ends ended e w = rw e (record { answer-is = ap Ends (w .count-is); output-is = w .buffer-is; inside = omega (arith, w .count-is, w .inside) })
+pub cut-ends : {out last : List ℕ} {n : ℕ} (ended : Bool) → ended ≡ true → Writes (noLine CUT) out last n → CutPromise ended out last (Ends (lastOf n CUT))
+cut-ends ended e w = rw e (record { answer-is = ap (λ (k : ℕ). Ends (lastOf k CUT)) (w .count-is); output-is = w .buffer-is; inside = omega (arith, w .count-is, w .inside) })
+
+-- A WHOLE RECORD
+
+pub empty-not-whole : (input : List ℕ) → length input ≡ 0 → false ≡ isWhole input
+empty-not-whole [] e = refl
+empty-not-whole (k ∷ bytes) e = absurd (omega (arith, e))
+
+pub whole-test : (input : List ℕ) (n : ℕ) → (length input ≡ 0 → ⊥) → n ≡ bodyLength (getD input 0 0) → ltb n (length input) ≡ isWhole input
+whole-test [] n some-input e = absurd (some-input refl)
+whole-test (k ∷ bytes) n some-input e = rw e (leb·suc-suc (bodyLength k) (length bytes))
 
 -- THE TURNS
 
 module _ (s : Option Plan) (lines : ℕ) (ended : Bool) where
-  empty-turn : (input : List ℕ) (room : ℕ) → length input ≡ 0 → turn s lines ended input room ≡ (if ended then ends [] else wants)
+  empty-turn : (input : List ℕ) (room : ℕ) → length input ≡ 0 → turn s lines ended input room ≡ (if ended then ends [] 0 else wants)
   empty-turn [] room e = refl
   empty-turn (k ∷ bytes) room e = absurd (omega (arith, e))
 
@@ -48,11 +59,11 @@ module _ (s : Option Plan) (lines : ℕ) (ended : Bool) where
   kind-turn (k ∷ bytes) room n h = rw (le-ltb room LONGEST h)
 
   module _ (k : ℕ) (bytes : List ℕ) where
-    unknown-turn : 9 < k → turnAt s lines ended k bytes ≡ ends (noLine KIND)
+    unknown-turn : 9 < k → turnAt s lines ended k bytes ≡ ends (noLine KIND) KIND
     unfolding turnAt
     unknown-turn h = rw (lt-ltb 9 k h)
 
-    cut-turn : k ≤ 9 → length bytes < bodyLength k → turnAt s lines ended k bytes ≡ (if ended then ends (noLine CUT) else wants)
+    cut-turn : k ≤ 9 → length bytes < bodyLength k → turnAt s lines ended k bytes ≡ (if ended then ends (noLine CUT) CUT else wants)
     unfolding turnAt
     cut-turn h l = rw (le-ltb 9 k h, lt-ltb (length bytes) (bodyLength k) l)
 
@@ -75,10 +86,10 @@ module _ (m : List ℕ) (lines : ℕ) (ended : Bool) (input out : List ℕ) wher
         opened-is = opened-is;
       }
 
-  pub nothing-ends : length input ≡ 0 → ended ≡ true → StepPromise m lines ended input out m out (Ends 0)
+  pub nothing-ends : length input ≡ 0 → ended ≡ true → StepPromise m lines ended input out m out (Ends (lastOf 0 0))
   nothing-ends h e =
-      let t : turn (stateOf m) lines ended input (length out) ≡ ends [] = empty-turn (stateOf m) lines ended input (length out) h ∙ rw e in
-      promised (ends []) t refl refl refl (omega arith) (sym (memory-kept m)) tt
+      let t : turn (stateOf m) lines ended input (length out) ≡ ends [] 0 = empty-turn (stateOf m) lines ended input (length out) h ∙ rw e in
+      promised (ends [] 0) t refl refl refl (omega arith) (sym (memory-kept m)) tt
 
   pub nothing-wants : length input ≡ 0 → ended ≡ false → StepPromise m lines ended input out m out Wants
   nothing-wants h e =
@@ -96,9 +107,9 @@ module _ (m : List ℕ) (lines : ℕ) (ended : Bool) (input out : List ℕ) wher
       at-kind : turn (stateOf m) lines ended input (length out) ≡ turnAt (stateOf m) lines ended kind (drop 1 input)
       at-kind = kind-turn (stateOf m) lines ended input (length out) some-input room
 
-      pub unknown-ends : {last : List ℕ} {n : ℕ} → 9 < kind → Writes (noLine KIND) out last n → StepPromise m lines ended input out m last (Ends n)
+      pub unknown-ends : {last : List ℕ} {n : ℕ} → 9 < kind → Writes (noLine KIND) out last n → StepPromise m lines ended input out m last (Ends (lastOf n KIND))
       unknown-ends h w =
-          promised (ends (noLine KIND)) (at-kind ∙ unknown-turn (stateOf m) lines ended kind (drop 1 input) h) (ap ends (front-is w)) (w .buffer-is) (w .count-is) (w .inside) (sym (memory-kept m)) tt
+          promised (ends (noLine KIND) KIND) (at-kind ∙ unknown-turn (stateOf m) lines ended kind (drop 1 input) h) (ap (λ (x : List ℕ). ends x KIND) (front-is w)) (w .buffer-is) (w .count-is) (w .inside) (sym (memory-kept m)) tt
 
       module _ (known : kind ≤ 9) (n : ℕ) (n-is : n ≡ bodyLength kind) where
         pub cut-step : {last : List ℕ} {r : Stepped} → length input < 1 + n → CutPromise ended out last r → StepPromise m lines ended input out m last r
@@ -107,8 +118,8 @@ module _ (m : List ℕ) (lines : ℕ) (ended : Bool) (input out : List ℕ) wher
             go ended (p .answer-is) (p .output-is) (p .inside) (at-kind ∙ cut-turn (stateOf m) lines ended kind (drop 1 input) known l)
           where
             go : (b : Bool) → r ≡ cutAnswer b (length (noLine CUT)) → last ≡ writtenOver (cutText b) out → length (cutText b) ≤ length out
-                → turn (stateOf m) lines ended input (length out) ≡ (if b then ends (noLine CUT) else wants) → StepPromise m lines ended input out m last r
-            go true e o i t = rw e (promised (ends (noLine CUT)) t (ap ends (rw o (take-at (noLine CUT) (drop (length (noLine CUT)) out) (length (noLine CUT)) refl))) o refl i (sym (memory-kept m)) tt)
+                → turn (stateOf m) lines ended input (length out) ≡ (if b then ends (noLine CUT) CUT else wants) → StepPromise m lines ended input out m last r
+            go true e o i t = rw e (promised (ends (noLine CUT) CUT) t (ap (λ (x : List ℕ). ends x CUT) (rw o (take-at (noLine CUT) (drop (length (noLine CUT)) out) (length (noLine CUT)) refl))) o refl i (sym (memory-kept m)) tt)
             go false e o i t = rw e (promised wants t refl o refl i (sym (memory-kept m)) tt)
 
         -- the body that is lent

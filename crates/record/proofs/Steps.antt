@@ -1,4 +1,4 @@
--- For callers of steps: a run of them writes the meaning's text of the whole file; what a step takes and leaves is within bounds; and when it must go on.
+-- For callers of steps: a run of them writes the meaning's text of the whole file and ends as it does; what a step takes and leaves is within bounds; and when it must go on.
 use Prim.Native.Nat.{ℕ, zero, suc, _+_, _-_, _≤_, _<_}
 use mathlib.Core.Path.{_≡_, refl, ap, sym, subst, _∙_}
 use mathlib.Core.Logic.{_⊎_, inl, inr}
@@ -6,16 +6,16 @@ use mathlib.Core.Bool.{Bool, true, false}
 use mathlib.Core.List.{List, [], _∷_}
 use mathlib.Core.Option.{Option, none, some}
 use native.Mathlib.Omega.{arith}
-use lib.ListN.{length, take, drop, getElem?, length-append, length-drop, length-map}
+use lib.ListN.{length, take, drop, getElem?, length-append, length-drop, length-map, List·getD-eq-default}
 use lib.Dec.{ltb, leb, eqb, leb→le}
-use borrow.Author.Tests.{ltb-false, le-ltb}
+use borrow.Author.Tests.{ltb-false, le-ltb, leb-true, leb-false, le-leb}
 use Rattle.meaning.specs.Basics.{if_then_else_}
 use Rattle.meaning.specs.Refusals.{KIND, CUT}
 use Rattle.meaning.specs.Settings.{bytesNeeded}
 use Rattle.meaning.specs.Plan.{Plan, roomsIn}
 use Rattle.meaning.specs.Calls.{bodyLength}
 use Rattle.meaning.specs.Reads.{Listed, listed, listing}
-use Rattle.meaning.specs.Records.{noLine, recordText, recordPlan}
+use Rattle.meaning.specs.Records.{noLine, recordText, recordPlan, endHere}
 use Rattle.meaning.proofs.Tests.{at-below}
 use Rattle.plan.specs.Layout.{image, planOf}
 use Rattle.plan.specs.State.{soundOf, stateOf}
@@ -25,13 +25,14 @@ use Rattle.changes.proofs.Chains.{HoldsIf, state-holds}
 use Rattle.run.specs.Runs.{RUN-BYTES, InRun}
 use Rattle.run.proofs.RunLaws.{memory-kept}
 use Rattle.text.specs.Writes.{LONGEST}
-use Rattle.record.specs.Turns.{Turn, wrote, wants, full, ends, LIST, listedTurn, listTurn, recordTurn, turnAt, turn}
+use Rattle.record.specs.Turns.{Turn, wrote, wants, full, ends, LIST, listedTurn, listTurn, recordTurn, turnAt, turn, isWhole}
 use Rattle.record.specs.Cuts.{Steps, line, wanting, filled, over}
-use Rattle.record.specs.Promises.{turnOf, planAfter, StepPromise, Runs, next, again, emptied, last, AnyRun}
+use Rattle.record.specs.Promises.{turnOf, planAfter, StepPromise, Runs, next, again, emptied, last, RunEnd, endOf, AnyRun}
 use Rattle.record.specs.declared.Run.{Run}
 use Rattle.record.specs.declared.Line.{Line}
+use Rattle.record.specs.declared.Last.{Last}
 use Rattle.record.specs.declared.Stepped.{Stepped}
-use Rattle.record.specs.declared.Stepped.the-variants.{Wrote, Wants, Full}
+use Rattle.record.specs.declared.Stepped.the-variants.{Wrote, Wants, Full, Ends}
 use Rattle.record.proofs.Cuts.{any-cut}
 use Rattle.record.proofs.ReadLines.{rules-few}
 
@@ -58,6 +59,9 @@ module _ {m input output after written : List ℕ} {lines : ℕ} {ended : Bool} 
   pub full-keeps : StepPromise m lines ended input output after written Full → after ≡ m
   full-keeps p = left-is p ∙ memory-kept m
 
+  pub ends-keeps : {l : Last} → StepPromise m lines ended input output after written (Ends l) → after ≡ m
+  ends-keeps p = left-is p ∙ memory-kept m
+
   -- else the memory of a run, with the flag that is handed on
   pub next-in-run : {l : Line} → RUN-BYTES ≤ length m → StepPromise m lines ended input output after written (Wrote l) → InRun after (l .run .opened)
   next-in-run h p =
@@ -66,17 +70,19 @@ module _ {m input output after written : List ℕ} {lines : ℕ} {ended : Bool} 
 
 -- A RUN OF STEPS
 
-run-steps : {m left text : List ℕ} {run : Run} → Runs m run left text → Steps (stateOf m) (run .lines) left text
+run-steps : {m left text : List ℕ} {run : Run} {e : RunEnd} → Runs m run left text e → Steps (stateOf m) (run .lines) left text (endOf e)
 run-steps (next {output = o} c p r) = line (length o) c (sym (p .turn-is)) (run-steps r)
-run-steps (again {m = m} {left = left} {output = o} {texts = texts} {run = run} c p r) =
-    wanting (length o) c (sym (p .turn-is)) (subst (λ (x : List ℕ). Steps (stateOf x) (run .lines) left texts) (wants-keeps p) (run-steps r))
-run-steps (emptied {m = m} {left = left} {output = o} {texts = texts} {run = run} c p r) =
-    filled (length o) c (sym (p .turn-is)) (subst (λ (x : List ℕ). Steps (stateOf x) (run .lines) left texts) (full-keeps p) (run-steps r))
-run-steps (last {output = o} c p) = over (length o) c (sym (p .turn-is))
+run-steps (again {m = m} {left = left} {output = o} {texts = texts} {run = run} {e = e} c p r) =
+    wanting (length o) c (sym (p .turn-is)) (subst (λ (x : List ℕ). Steps (stateOf x) (run .lines) left texts (endOf e)) (wants-keeps p) (run-steps r))
+run-steps (emptied {m = m} {left = left} {output = o} {texts = texts} {run = run} {e = e} c p r) =
+    filled (length o) c (sym (p .turn-is)) (subst (λ (x : List ℕ). Steps (stateOf x) (run .lines) left texts (endOf e)) (full-keeps p) (run-steps r))
+run-steps (last {m = m} {left = left} {output = o} {written = w} {run = run} {l = l} c p) =
+    subst (λ (x : List ℕ). Steps (stateOf m) (run .lines) left (take (l .written) w) (endHere (l .refusal) (stateOf x))) (sym (ends-keeps p))
+    (over (length o) c (sym (p .turn-is)))
 
--- "the meaning's text of the whole file"
+-- "the meaning's text of the whole file", and its end
 pub any-run : AnyRun
-any-run m file text i r = any-cut file text (rw (state-none m (i .state)) at (run-steps r))
+any-run m file text e i r = any-cut file text (endOf e) (rw (state-none m (i .state)) at (run-steps r))
 
 -- WHEN A STEP MUST GO ON
 
@@ -84,7 +90,7 @@ abbrev IsLine : Turn → Type 0
 IsLine (wrote text taken t lines) = Unit {0}
 IsLine wants = ⊥
 IsLine full = ⊥
-IsLine (ends text) = ⊥
+IsLine (ends text refusal) = ⊥
 
 -- a whole record writes a line
 record-line : (s : Option Plan) (lines k : ℕ) (body : List ℕ) → IsLine (recordTurn s lines k body)
@@ -107,23 +113,36 @@ abbrev NotWants : Turn → Type 0
 NotWants (wrote text taken t lines) = Unit {0}
 NotWants wants = ⊥
 NotWants full = Unit {0}
-NotWants (ends text) = Unit {0}
+NotWants (ends text refusal) = Unit {0}
 
 abbrev NotFull : Turn → Type 0
 NotFull (wrote text taken t lines) = Unit {0}
 NotFull wants = Unit {0}
 NotFull full = ⊥
-NotFull (ends text) = Unit {0}
+NotFull (ends text refusal) = Unit {0}
 
 line-goes : (t : Turn) → IsLine t → NotWants t × NotFull t
 line-goes (wrote text taken t lines) u = (tt, tt)
 line-goes wants u = absurd u
 line-goes full u = absurd u
-line-goes (ends text) u = absurd u
+line-goes (ends text refusal) u = absurd u
 
-body-most : (k : ℕ) → k ≤ 9 → bodyLength k ≤ 73
+body-most : (k : ℕ) → bodyLength k ≤ 73
 unfolding bodyLength
-body-most k h = leb→le (bodyLength k) 73 (at-below (λ (j : ℕ). leb (bodyLength j) 73) 10 tt k (omega arith))
+body-most k = go (leb k 9) refl
+  where
+    go : (b : Bool) → leb k 9 ≡ b → bodyLength k ≤ 73
+    go true e = leb→le (bodyLength k) 73 (at-below (λ (j : ℕ). leb (bodyLength j) 73) 10 tt k (omega (arith, leb-true k 9 e)))
+    go false e = rw (List·getD-eq-default {A = ℕ} (40 ∷ 47 ∷ 47 ∷ 2 ∷ 21 ∷ 21 ∷ 19 ∷ 73 ∷ 2 ∷ 0 ∷ []) 0 {n = k} (leb-false k 9 e)) (omega arith)
+
+-- there is a byte for a kind, and 73 for the longest body
+pub enough-whole : (part : List ℕ) → 74 ≤ length part → isWhole part ≡ true
+enough-whole [] h = absurd (omega (arith, h))
+enough-whole (k ∷ bytes) h = le-leb (bodyLength k) (length bytes) (omega (arith, body-most k))
+
+pub not-whole-few : (part : List ℕ) → isWhole part ≡ false → length part < 74
+not-whole-few [] e = omega arith
+not-whole-few (k ∷ bytes) e = omega (arith, leb-false (bodyLength k) (length bytes) e, body-most k)
 
 module _ (s : Option Plan) (lines : ℕ) where
   module _ (k : ℕ) (bytes : List ℕ) where
@@ -134,27 +153,25 @@ module _ (s : Option Plan) (lines : ℕ) where
     unfolding turnAt
     kind-ended = go (ltb 9 k) (ltb (length bytes) (bodyLength k))
       where
-        go : (a b : Bool) → NotWants (if a then ends (noLine KIND) else if b then ends (noLine CUT) else recordTurn s lines k (take (bodyLength k) bytes))
+        go : (a b : Bool) → NotWants (if a then ends (noLine KIND) KIND else if b then ends (noLine CUT) CUT else recordTurn s lines k (take (bodyLength k) bytes))
         go true b = tt
         go false true = tt
         go false false = goes .0
 
-    kind-enough : (ended : Bool) → 73 ≤ length bytes → NotWants (turnAt s lines ended k bytes)
+    kind-whole : (ended : Bool) → bodyLength k ≤ length bytes → NotWants (turnAt s lines ended k bytes)
     unfolding turnAt
-    kind-enough ended h = go (ltb 9 k) refl
+    kind-whole ended h = rw (le-ltb (length bytes) (bodyLength k) h) (go (ltb 9 k))
       where
-        go : (a : Bool) → ltb 9 k ≡ a
-            → NotWants (if a then ends (noLine KIND) else
-            if ltb (length bytes) (bodyLength k) then (if ended then ends (noLine CUT) else wants) else recordTurn s lines k (take (bodyLength k) bytes))
-        go true e = tt
-        go false e = rw (le-ltb (length bytes) (bodyLength k) (omega (arith, body-most k (ltb-false 9 k e)))) (goes .0)
+        go : (a : Bool) → NotWants (if a then ends (noLine KIND) KIND else recordTurn s lines k (take (bodyLength k) bytes))
+        go true = tt
+        go false = goes .0
 
     kind-not-full : (ended : Bool) → NotFull (turnAt s lines ended k bytes)
     unfolding turnAt
     kind-not-full ended = go (ltb 9 k) (ltb (length bytes) (bodyLength k)) ended
       where
         go : (a b c : Bool)
-            → NotFull (if a then ends (noLine KIND) else if b then (if c then ends (noLine CUT) else wants) else recordTurn s lines k (take (bodyLength k) bytes))
+            → NotFull (if a then ends (noLine KIND) KIND else if b then (if c then ends (noLine CUT) CUT else wants) else recordTurn s lines k (take (bodyLength k) bytes))
         go true b c = tt
         go false true true = tt
         go false true false = tt
@@ -169,14 +186,14 @@ module _ (s : Option Plan) (lines : ℕ) where
       go true = tt
       go false = kind-ended k bytes
 
-  -- there is a byte for a kind, and 73 for the longest body
-  enough-goes : (ended : Bool) (part : List ℕ) (room : ℕ) → 74 ≤ length part → NotWants (turn s lines ended part room)
-  enough-goes ended [] room h = absurd (omega (arith, h))
-  enough-goes ended (k ∷ bytes) room h = go (ltb room LONGEST)
+  -- there is a whole record
+  whole-goes : (ended : Bool) (part : List ℕ) (room : ℕ) → isWhole part ≡ true → NotWants (turn s lines ended part room)
+  whole-goes ended [] room h = absurd (let z : _≡_ {A = ℕ} 0 1 = cc in omega arith)
+  whole-goes ended (k ∷ bytes) room h = go (ltb room LONGEST)
     where
       go : (b : Bool) → NotWants (if b then full else turnAt s lines ended k bytes)
       go true = tt
-      go false = kind-enough k bytes ended (omega arith)
+      go false = kind-whole k bytes ended (leb-true (bodyLength k) (length bytes) h)
 
   -- there is room for a line
   room-goes : (ended : Bool) (part : List ℕ) (room : ℕ) → LONGEST ≤ room → NotFull (turn s lines ended part room)
@@ -184,17 +201,29 @@ module _ (s : Option Plan) (lines : ℕ) where
   room-goes false [] room h = tt
   room-goes ended (k ∷ bytes) room h = rw (le-ltb room LONGEST h) (kind-not-full k bytes ended)
 
+-- of a turn: it does not want more where the input has ended or has a whole record, and has room where a line has
+pub ended-turn-goes : (s : Option Plan) (lines : ℕ) (part : List ℕ) (room : ℕ) → turn s lines true part room ≡ wants → ⊥
+ended-turn-goes s lines part room e = subst NotWants e (ended-goes s lines part room)
+
+pub whole-turn-goes : (s : Option Plan) (lines : ℕ) (ended : Bool) (part : List ℕ) (room : ℕ) → isWhole part ≡ true → turn s lines ended part room ≡ wants → ⊥
+whole-turn-goes s lines ended part room h e = subst NotWants e (whole-goes s lines ended part room h)
+
+pub room-turn-goes : (s : Option Plan) (lines : ℕ) (ended : Bool) (part : List ℕ) (room : ℕ) → LONGEST ≤ room → turn s lines ended part room ≡ full → ⊥
+room-turn-goes s lines ended part room h e = subst NotFull e (room-goes s lines ended part room h)
+
+-- the same of a step
 module _ {m input output after written : List ℕ} {lines : ℕ} {ended : Bool} where
-  -- with the input ended and room for a line, a step neither wants more nor finds no room
   pub ended-no-wants : ended ≡ true → StepPromise m lines ended input output after written Wants → ⊥
-  ended-no-wants e p =
-      subst NotWants (sym (p .turn-is ∙ ap (λ (b : Bool). turn (stateOf m) lines b input (length output)) e)) (ended-goes (stateOf m) lines input (length output))
+  ended-no-wants e p = ended-turn-goes (stateOf m) lines input (length output) (rw e at (sym (p .turn-is)))
+
+  pub whole-no-wants : isWhole input ≡ true → StepPromise m lines ended input output after written Wants → ⊥
+  whole-no-wants h p = whole-turn-goes (stateOf m) lines ended input (length output) h (sym (p .turn-is))
 
   pub enough-no-wants : 74 ≤ length input → StepPromise m lines ended input output after written Wants → ⊥
-  enough-no-wants h p = subst NotWants (sym (p .turn-is)) (enough-goes (stateOf m) lines ended input (length output) h)
+  enough-no-wants h p = whole-no-wants (enough-whole input h) p
 
   pub room-no-full : LONGEST ≤ length output → StepPromise m lines ended input output after written Full → ⊥
-  room-no-full h p = subst NotFull (sym (p .turn-is)) (room-goes (stateOf m) lines ended input (length output) h)
+  room-no-full h p = room-turn-goes (stateOf m) lines ended input (length output) h (sym (p .turn-is))
 
 -- WHAT A LINE TAKES: a byte at least, or the listing goes on
 
@@ -206,7 +235,7 @@ abbrev Takes : Option Plan → ℕ → ℕ → Turn → Type 0
 Takes s lines size (wrote text taken t more) = (taken ≤ size) × ((1 ≤ taken) ⊎ ((more ≡ lines + 1) × (lines < linesIn s)))
 Takes s lines size wants = Unit {0}
 Takes s lines size full = Unit {0}
-Takes s lines size (ends text) = Unit {0}
+Takes s lines size (ends text refusal) = Unit {0}
 
 inside : {A : Type 0} (xs : List A) (k : ℕ) (x : A) → getElem? xs k ≡ some x → k < length xs
 inside [] k x e = absurd (let z : _≡_ {A = ℕ} 0 1 = cc in omega arith)
@@ -227,7 +256,7 @@ module _ (s : Option Plan) (lines : ℕ) (ended : Bool) where
   kind-takes k bytes = go (ltb 9 k) (ltb (length bytes) (bodyLength k)) ended (eqb k LIST) refl
     where
       go : (a b c d : Bool) → ltb (length bytes) (bodyLength k) ≡ b
-          → Takes s lines (suc (length bytes)) (if a then ends (noLine KIND) else if b then (if c then ends (noLine CUT) else wants) else
+          → Takes s lines (suc (length bytes)) (if a then ends (noLine KIND) KIND else if b then (if c then ends (noLine CUT) CUT else wants) else
           if d then listTurn s lines else wrote (recordText s k (take (bodyLength k) bytes)) (1 + bodyLength k) (recordPlan s k (take (bodyLength k) bytes)) 0)
       go true b c d e = tt
       go false true true d e = tt
@@ -238,7 +267,7 @@ module _ (s : Option Plan) (lines : ℕ) (ended : Bool) where
   turn-takes : (part : List ℕ) (room : ℕ) → Takes s lines (length part) (turn s lines ended part room)
   turn-takes [] room = go ended
     where
-      go : (b : Bool) → Takes s lines 0 (if b then ends [] else wants)
+      go : (b : Bool) → Takes s lines 0 (if b then ends [] 0 else wants)
       go true = tt
       go false = tt
   turn-takes (k ∷ bytes) room = go (ltb room LONGEST)

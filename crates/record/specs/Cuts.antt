@@ -6,7 +6,7 @@ use mathlib.Core.List.{List, [], _∷_, _++_}
 use mathlib.Core.Option.{Option, none, some}
 use lib.ListN.{drop}
 use Rattle.meaning.specs.Plan.{Plan}
-use Rattle.meaning.specs.Records.{fileText}
+use Rattle.meaning.specs.Records.{fileText, End, endHere, endBehind, fileEnd}
 use Rattle.record.specs.Turns.{Turn, wrote, wants, full, ends, turn}
 
 -- the part at hand and what comes behind it are what is left of the file; the input has ended only where nothing comes behind
@@ -14,17 +14,17 @@ pub record Cut (left part rest : List ℕ) (ended : Bool) : Type 0 where
   pub joins : left ≡ part ++ rest
   pub last : ended ≡ true → rest ≡ []
 
--- steps, each over a part of what is left, of any size and with any room for output, until reading has ended; the joined text
-pub data Steps : Option Plan → ℕ → List ℕ → List ℕ → Type 0 where
-  line : {s t : Option Plan} {lines next taken : ℕ} {left part rest text texts : List ℕ} {ended : Bool} (room : ℕ) → Cut left part rest ended
-      → turn s lines ended part room ≡ wrote text taken t next → Steps t next (drop taken left) texts → Steps s lines left (text ++ texts)
-  wanting : {s : Option Plan} {lines : ℕ} {left part rest texts : List ℕ} {ended : Bool} (room : ℕ) → Cut left part rest ended
-      → turn s lines ended part room ≡ wants → Steps s lines left texts → Steps s lines left texts
-  filled : {s : Option Plan} {lines : ℕ} {left part rest texts : List ℕ} {ended : Bool} (room : ℕ) → Cut left part rest ended
-      → turn s lines ended part room ≡ full → Steps s lines left texts → Steps s lines left texts
-  over : {s : Option Plan} {lines : ℕ} {left part rest text : List ℕ} {ended : Bool} (room : ℕ) → Cut left part rest ended
-      → turn s lines ended part room ≡ ends text → Steps s lines left text
+-- steps, each over a part of what is left, of any size and with any room for output, until reading has ended; the joined text, and the end
+pub data Steps : Option Plan → ℕ → List ℕ → List ℕ → End → Type 0 where
+  line : {s t : Option Plan} {lines next taken : ℕ} {left part rest text texts : List ℕ} {ended : Bool} {e : End} (room : ℕ) → Cut left part rest ended
+      → turn s lines ended part room ≡ wrote text taken t next → Steps t next (drop taken left) texts e → Steps s lines left (text ++ texts) (endBehind taken e)
+  wanting : {s : Option Plan} {lines : ℕ} {left part rest texts : List ℕ} {ended : Bool} {e : End} (room : ℕ) → Cut left part rest ended
+      → turn s lines ended part room ≡ wants → Steps s lines left texts e → Steps s lines left texts e
+  filled : {s : Option Plan} {lines : ℕ} {left part rest texts : List ℕ} {ended : Bool} {e : End} (room : ℕ) → Cut left part rest ended
+      → turn s lines ended part room ≡ full → Steps s lines left texts e → Steps s lines left texts e
+  over : {s : Option Plan} {lines refusal : ℕ} {left part rest text : List ℕ} {ended : Bool} (room : ℕ) → Cut left part rest ended
+      → turn s lines ended part room ≡ ends text refusal → Steps s lines left text (endHere refusal s)
 
--- "the joined text is the meaning's text of the whole file", however it is cut
+-- "the joined text is the meaning's text of the whole file", however it is cut, and so is the end
 abbrev pub AnyCut : Type 0
-AnyCut = (file text : List ℕ) → Steps none 0 file text → text ≡ fileText file
+AnyCut = (file text : List ℕ) (e : End) → Steps none 0 file text e → (text ≡ fileText file) × (e ≡ fileEnd file)

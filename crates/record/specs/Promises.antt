@@ -1,5 +1,5 @@
 -- What a step promises, over the memory that holds the run's plan.
-use Prim.Native.Nat.{ℕ, _≤_, _<_}
+use Prim.Native.Nat.{ℕ, _+_, _≤_, _<_}
 use mathlib.Core.Path.{_≡_}
 use mathlib.Core.Bool.{Bool, false, _||_}
 use mathlib.Core.List.{List, [], _++_}
@@ -8,7 +8,7 @@ use lib.ListN.{length, take, drop}
 use Rattle.meaning.specs.Basics.{if_then_else_, isZero, writtenOver}
 use Rattle.meaning.specs.Refusals.{CUT}
 use Rattle.meaning.specs.Plan.{Plan}
-use Rattle.meaning.specs.Records.{noLine, fileText}
+use Rattle.meaning.specs.Records.{noLine, fileText, End, fileEnd}
 use Rattle.plan.specs.State.{soundOf, stateOf}
 use Rattle.changes.specs.Promise.{memoryOf}
 use Rattle.run.specs.Runs.{RUN-BYTES, InRun}
@@ -16,6 +16,7 @@ use Rattle.record.specs.Turns.{Turn, wrote, wants, full, ends, turn}
 use Rattle.record.specs.Cuts.{Cut}
 use Rattle.record.specs.declared.Run.{Run}
 use Rattle.record.specs.declared.Line.{Line}
+use Rattle.record.specs.declared.Last.{Last}
 use Rattle.record.specs.declared.Stepped.{Stepped}
 use Rattle.record.specs.declared.Stepped.the-variants.{Wrote, Wants, Full, Ends}
 use Rattle.record.specs.declared.AnyStep.{AnyStep}
@@ -30,34 +31,34 @@ abbrev pub turnOf : Stepped → List ℕ → Option Plan → Turn
 turnOf (Wrote l) output s = wrote (take (l .written) output) (l .taken) s (l .run .lines)
 turnOf Wants output s = wants
 turnOf Full output s = full
-turnOf (Ends n) output s = ends (take n output)
+turnOf (Ends e) output s = ends (take (e .written) output) (e .refusal)
 
 -- how many bytes an answer says are written
 abbrev pub writtenBy : Stepped → ℕ
 writtenBy (Wrote l) = l .written
 writtenBy Wants = 0
 writtenBy Full = 0
-writtenBy (Ends n) = n
+writtenBy (Ends e) = e .written
 
 -- what a turn writes, and the plan that it leaves
 abbrev pub textOf : Turn → List ℕ
 textOf (wrote text taken s lines) = text
 textOf wants = []
 textOf full = []
-textOf (ends text) = text
+textOf (ends text refusal) = text
 
 abbrev pub planAfter : Turn → Option Plan → Option Plan
 planAfter (wrote text taken t lines) s = t
 planAfter wants s = s
 planAfter full s = s
-planAfter (ends text) s = s
+planAfter (ends text refusal) s = s
 
 -- the flag that an answer hands on is right
 abbrev pub OpenedRight : Stepped → List ℕ → Type 0
 OpenedRight (Wrote l) m = soundOf m ≡ l .run .opened
 OpenedRight Wants m = Unit {0}
 OpenedRight Full m = Unit {0}
-OpenedRight (Ends n) m = Unit {0}
+OpenedRight (Ends e) m = Unit {0}
 
 -- THE PROMISE OF A LINE that leaves the plan as it was: the turn's text, and what the line hands on
 pub record ReadPromise (t : Turn) (m : List ℕ) (run : Run) (output left : List ℕ) (r : Line) : Type 0 where
@@ -80,9 +81,13 @@ pub record LinePromise (t : Turn) (m output after left : List ℕ) (r : Line) : 
 abbrev pub openedAfter : Bool → ℕ → ℕ → Bool
 openedAfter opened k number = if isZero number then opened || isZero k else opened
 
+-- the last line of so many bytes, and the refusal that it writes
+abbrev pub lastOf : ℕ → ℕ → Last
+lastOf written refusal = record { written = written; refusal = refusal }
+
 -- A BODY THAT IS CUT: its line where the input has ended
 abbrev pub cutAnswer : Bool → ℕ → Stepped
-cutAnswer ended n = if ended then Ends n else Wants
+cutAnswer ended n = if ended then Ends (lastOf n CUT) else Wants
 
 abbrev pub cutText : Bool → List ℕ
 cutText ended = if ended then noLine CUT else []
@@ -107,23 +112,39 @@ abbrev pub AnyStepPromise : List ℕ → ℕ → Bool → List ℕ → List ℕ 
 AnyStepPromise m lines ended input output after left Small = (length m < RUN-BYTES) × (after ≡ m) × (left ≡ output)
 AnyStepPromise m lines ended input output after left (Took r) = (RUN-BYTES ≤ length m) × StepPromise m lines ended input output after left r
 
+-- how a run of steps ends: the refusal, or 0, the place where, and the memory that is left
+pub record RunEnd : Type 0 where
+  pub refusal : ℕ
+  pub place : ℕ
+  pub memory : List ℕ
+
+abbrev pub runEndHere : ℕ → List ℕ → RunEnd
+runEndHere refusal m = record { refusal = refusal; place = 0; memory = m }
+
+abbrev pub runEndBehind : ℕ → RunEnd → RunEnd
+runEndBehind n e = record { refusal = e .refusal; place = n + e .place; memory = e .memory }
+
+-- in the meaning's words: by the plan that the memory holds
+abbrev pub endOf : RunEnd → End
+endOf e = record { refusal = e .refusal; place = e .place; plan = stateOf (e .memory) }
+
 -- RUNS OF STEPS on one memory, each getting it as the last one left it, with a part of what is left of the input and an output of its own: the memory before,
--- the state handed on, what is left of the input, and the joined text
-pub data Runs : List ℕ → Run → List ℕ → List ℕ → Type 0 where
-  next : {m after left part rest output written texts : List ℕ} {run : Run} {ended : Bool} {l : Line} → Cut left part rest ended
-      → StepPromise m (run .lines) ended part output after written (Wrote l) → Runs after (l .run) (drop (l .taken) left) texts
-      → Runs m run left (take (l .written) written ++ texts)
-  again : {m after left part rest output written texts : List ℕ} {run : Run} {ended : Bool} → Cut left part rest ended
-      → StepPromise m (run .lines) ended part output after written Wants → Runs after run left texts → Runs m run left texts
-  emptied : {m after left part rest output written texts : List ℕ} {run : Run} {ended : Bool} → Cut left part rest ended
-      → StepPromise m (run .lines) ended part output after written Full → Runs after run left texts → Runs m run left texts
-  last : {m after left part rest output written : List ℕ} {run : Run} {ended : Bool} {n : ℕ} → Cut left part rest ended
-      → StepPromise m (run .lines) ended part output after written (Ends n) → Runs m run left (take n written)
+-- the state handed on, what is left of the input, the joined text, and the end
+pub data Runs : List ℕ → Run → List ℕ → List ℕ → RunEnd → Type 0 where
+  next : {m after left part rest output written texts : List ℕ} {run : Run} {ended : Bool} {l : Line} {e : RunEnd} → Cut left part rest ended
+      → StepPromise m (run .lines) ended part output after written (Wrote l) → Runs after (l .run) (drop (l .taken) left) texts e
+      → Runs m run left (take (l .written) written ++ texts) (runEndBehind (l .taken) e)
+  again : {m after left part rest output written texts : List ℕ} {run : Run} {ended : Bool} {e : RunEnd} → Cut left part rest ended
+      → StepPromise m (run .lines) ended part output after written Wants → Runs after run left texts e → Runs m run left texts e
+  emptied : {m after left part rest output written texts : List ℕ} {run : Run} {ended : Bool} {e : RunEnd} → Cut left part rest ended
+      → StepPromise m (run .lines) ended part output after written Full → Runs after run left texts e → Runs m run left texts e
+  last : {m after left part rest output written : List ℕ} {run : Run} {ended : Bool} {l : Last} → Cut left part rest ended
+      → StepPromise m (run .lines) ended part output after written (Ends l) → Runs m run left (take (l .written) written) (runEndHere (l .refusal) after)
 
 -- the state that a run begins with
 abbrev pub start : Run
 start = record { opened = false; lines = 0 }
 
--- a run that begins with a memory of its size that holds no sound plan writes "the meaning's text of the whole file"
+-- a run that begins with a memory of its size that holds no sound plan writes "the meaning's text of the whole file", and ends as it does
 abbrev pub AnyRun : Type 0
-AnyRun = (m file text : List ℕ) → InRun m false → Runs m start file text → text ≡ fileText file
+AnyRun = (m file text : List ℕ) (e : RunEnd) → InRun m false → Runs m start file text e → (text ≡ fileText file) × (endOf e ≡ fileEnd file)

@@ -6,7 +6,7 @@ use mathlib.Core.Bool.{Bool, true, false}
 use mathlib.Core.List.{List, [], _∷_, _++_}
 use mathlib.Core.Option.{Option, none, some}
 use lib.ListN.{length, take, drop, getElem?}
-use lib.Dec.{ltb, eqb}
+use lib.Dec.{ltb, leb, eqb}
 use Rattle.meaning.specs.Basics.{if_then_else_}
 use Rattle.meaning.specs.Refusals.{CUT, KIND, PLAN}
 use Rattle.meaning.specs.Plan.{Plan}
@@ -16,12 +16,12 @@ use Rattle.meaning.specs.Records.{noLine, listedLine, endLine, recordText, reco
 use Rattle.text.specs.Writes.{LONGEST}
 
 -- what a step does: a line, with the bytes of input that it takes and what it leaves; or nothing, since there is no whole record yet, or no room for a
--- line; or the last line, or none, and reading has ended
+-- line; or the last line, or none, and reading has ended with a refusal, or 0
 pub data Turn : Type 0 where
   wrote : (text : List ℕ) (taken : ℕ) (plan : Option Plan) (lines : ℕ) → Turn
   wants : Turn
   full : Turn
-  ends : (text : List ℕ) → Turn
+  ends : (text : List ℕ) (refusal : ℕ) → Turn
 
 -- the kind of a listing
 abbrev pub LIST : ℕ
@@ -44,10 +44,15 @@ recordTurn s lines k body =
 -- "KIND before CUT"; CUT only where the input has ended
 unfoldable pub turnAt : Option Plan → ℕ → Bool → ℕ → List ℕ → Turn
 turnAt s lines ended k bytes =
-    if ltb 9 k then ends (noLine KIND) else
-    if ltb (length bytes) (bodyLength k) then (if ended then ends (noLine CUT) else wants) else
+    if ltb 9 k then ends (noLine KIND) KIND else
+    if ltb (length bytes) (bodyLength k) then (if ended then ends (noLine CUT) CUT else wants) else
     recordTurn s lines k (take (bodyLength k) bytes)
 
 abbrev pub turn : Option Plan → ℕ → Bool → List ℕ → ℕ → Turn
-turn s lines ended [] room = if ended then ends [] else wants
+turn s lines ended [] room = if ended then ends [] 0 else wants
 turn s lines ended (k ∷ bytes) room = if ltb room LONGEST then full else turnAt s lines ended k bytes
+
+-- whether a part has a whole record, so that a step need not wait for more; a byte that is no kind has no body
+abbrev pub isWhole : List ℕ → Bool
+isWhole [] = false
+isWhole (k ∷ bytes) = leb (bodyLength k) (length bytes)

@@ -13,7 +13,7 @@ ghost use Rattle.number.specs.Answering.{Known};
 ghost use Rattle.text.specs.Writes.{LONGEST, Writes};
 ghost use Rattle.run.specs.Runs.{InRun};
 ghost use Rattle.blocks.specs.Places.{maskTable};
-ghost use Rattle.record.specs.Turns.{listTurn, recordTurn};
+ghost use Rattle.record.specs.Turns.{listTurn, recordTurn, isWhole};
 ghost use Rattle.record.specs.Promises.{lineOf, ReadPromise, LinePromise, openedAfter, CutPromise, StepPromise, AnyStepPromise};
 use meaning::Provisioned;
 use meaning::RulePlace;
@@ -57,6 +57,12 @@ pub struct Line {
     pub run: Run,
 }
 
+// Reading has ended: how many bytes the last line has, and the refusal that it writes; no line, and 0, where the input has come to its end.
+pub struct Last {
+    pub written: usize,
+    pub refusal: u8,
+}
+
 // What a step answers.
 pub enum Stepped {
     Wrote(Line),
@@ -64,8 +70,7 @@ pub enum Stepped {
     Wants,
     // the output has no room for a line
     Full,
-    // reading has ended, with a last line of so many bytes
-    Ends(usize),
+    Ends(Last),
 }
 
 // What a step over any memory answers: the memory is too small for a run's plan, or what the step answers.
@@ -230,7 +235,20 @@ fn cut_record(ended: bool, output: &mut [u8]) -> Stepped
     if !ended {
         return Stepped::Wants;
     }
-    Stepped::Ends(text::no_line(CUT, output))
+    Stepped::Ends(Last {
+        written: text::no_line(CUT, output),
+        refusal: CUT,
+    })
+}
+
+// Whether the input at hand has a whole record, so that a step need not wait for more.
+pub fn is_whole(input: &[u8]) -> bool
+    ensures { λ r. ⌜ r ≡ isWhole (now (input .entry)) ⌝ }
+{
+    if input.len() == 0 {
+        return false;
+    }
+    changes::body_length(input[0]) < input.len()
 }
 
 // One step: a record of the input at hand, or a line of a listing, whose line goes to the front of the output. Whether the memory holds a sound plan is known, and
@@ -248,7 +266,10 @@ pub fn step_by(
 {
     if input.len() == 0 {
         if ended {
-            return Stepped::Ends(0);
+            return Stepped::Ends(Last {
+                written: 0,
+                refusal: 0,
+            });
         }
         return Stepped::Wants;
     }
@@ -257,7 +278,10 @@ pub fn step_by(
     }
     let kind = input[0];
     if LAST_KIND < kind {
-        return Stepped::Ends(text::no_line(KIND, output));
+        return Stepped::Ends(Last {
+            written: text::no_line(KIND, output),
+            refusal: KIND,
+        });
     }
     let end = 1 + changes::body_length(kind);
     if input.len() < end {

@@ -1,4 +1,6 @@
-pub mod StepFacts
-pub mod Pumping
 pub mod Beginning
-pub mod Draining
+pub mod Answers
+pub mod HandFacts
+pub mod TurnLaws
+pub mod ChainLaws
+pub mod Copying

@@ -1,30 +1,88 @@
--- What the parts of a copy hand on to each other.
-use Prim.Native.Nat.{ℕ, _-_, _≤_, _<_}
-use mathlib.Core.List.{List}
-use Rattle.run.specs.Runs.{InRun}
+-- All turns of a copy: what they were given, in order, what they wrote, in order, and how they end.
+use Prim.Native.Nat.{ℕ, _+_, _≤_}
+use mathlib.Core.Path.{_≡_}
+use mathlib.Core.Logic.{_⊎_}
+use mathlib.Core.Bool.{true, false}
+use mathlib.Core.List.{List, [], _++_}
+use lib.IntN.{ℤ}
+use lib.ListN.{length, take, drop}
+use Rattle.meaning.specs.Records.{End, fileText, fileEnd}
+use Rattle.buffer.specs.Zeros.{zeros}
+use Rattle.plan.specs.State.{stateOf}
+use Rattle.run.specs.Runs.{RUN-BYTES}
+use Rattle.record.specs.Promises.{start}
+use Rattle.descriptors.specs.Moves.{newSource, newSink}
+use Rattle.stream.specs.Turnings.{leftOf, Unread, Turning}
 use Rattle.stream.specs.declared.Rest.{Rest}
+use Rattle.stream.specs.declared.Ending.{Ending}
 use Rattle.stream.specs.declared.Turned.{Turned}
-use Rattle.stream.specs.declared.Turned.the-variants.{Goes, Done, NotRead, NotWritten}
+use Rattle.stream.specs.declared.Turned.the-variants.{Goes, Done, NotRead, NotWritten, Spent}
 
--- a part of n bytes was taken but for less than the longest record, and the memory holds the run's plan
-pub record Taken (m : List ℕ) (n : ℕ) (r : Rest) : Type 0 where
-  pub in-run : InRun m (r .run .opened)
-  pub inside : r .have ≤ n
-  pub few : n - r .have < 74
+-- the largest buffer, and the most turns: 2^47, so that 64-bit counts of all that they read and write do not overflow
+abbrev pub BUFFER : ℕ
+BUFFER = 65536
 
-abbrev pub TakesOn : List ℕ → ℕ → Turned → Type 0
-TakesOn m n (Goes r) = Taken m n r
-TakesOn m n Done = Unit {0}
-TakesOn m n NotRead = Unit {0}
-TakesOn m n NotWritten = Unit {0}
+abbrev pub TURNS : ℕ
+TURNS = 140737488355328
 
--- less than the longest record is not taken yet
-pub record Handed (m : List ℕ) (r : Rest) : Type 0 where
-  pub in-run : InRun m (r .run .opened)
-  pub few : r .have < 74
+-- before the first turn
+abbrev pub first : ℤ → ℤ → Rest
+first from to = record { run = start; source = newSource from; sink = newSink to; at = 0; end = 0 }
 
-abbrev pub HandsOn : List ℕ → Turned → Type 0
-HandsOn m (Goes r) = Handed m r
-HandsOn m Done = Unit {0}
-HandsOn m NotRead = Unit {0}
-HandsOn m NotWritten = Unit {0}
+-- what a turn was given, behind what was left, and what it wrote
+module _ {m : List ℕ} {rest : Rest} {input output after input-left output-left : List ℕ} {t : Turned} where
+  abbrev pub givenIn : Turning m rest input output after input-left output-left t → List ℕ
+  givenIn w = drop (leftOf rest) (take (w .h .end) input-left)
+
+  abbrev pub writtenIn : Turning m rest input output after input-left output-left t → List ℕ
+  writtenIn w = take (w .p .written) output-left
+
+-- CHAINS OF TURNS from a cleared memory, each getting what the last one left: how many; what they were given and what they wrote; and the memory, the state and
+-- the input that they leave
+pub data Chain (from to : ℤ) (size : ℕ) : ℕ → List ℕ → List ℕ → List ℕ → Rest → List ℕ → Type 0 where
+  begun : {input : List ℕ} → Chain from to size 0 [] [] (zeros size) (first from to) input
+  turned : {n : ℕ} {given written m input output after input-left output-left : List ℕ} {rest next : Rest} → Chain from to size n given written m rest input
+      → (w : Turning m rest input output after input-left output-left (Goes next))
+      → Chain from to size (n + 1) (given ++ givenIn w) (written ++ writtenIn w) after next input-left
+
+-- THE PROMISE OF A COPY: a chain of turns, and how the last one ended, over the memory and the buffers that are left
+abbrev pub LastTurn : List ℕ → Rest → List ℕ → List ℕ → List ℕ → List ℕ → List ℕ → ℕ → Turned → Type 0
+LastTurn m rest input output after input-left output-left n (Goes next) = ⊥
+LastTurn m rest input output after input-left output-left n (Done e) = Turning m rest input output after input-left output-left (Done e)
+LastTurn m rest input output after input-left output-left n (NotRead r) = Unread m rest input output after input-left output-left (NotRead r)
+LastTurn m rest input output after input-left output-left n (NotWritten r) = Turning m rest input output after input-left output-left (NotWritten r)
+LastTurn m rest input output after input-left output-left n (Spent r) = (n ≡ TURNS) × (r ≡ rest) × (after ≡ m) × (input-left ≡ input)
+
+pub record CopyPromise (from to : ℤ) (size : ℕ) (after input-left output-left : List ℕ) (t : Turned) : Type 0 where
+  pub turns : ℕ
+  pub given : List ℕ
+  pub written : List ℕ
+  pub memory : List ℕ
+  pub rest : Rest
+  pub input : List ℕ
+  pub output : List ℕ
+  pub chain : Chain from to size turns given written memory rest input
+  pub ends : LastTurn memory rest input output after input-left output-left turns t
+
+-- THE CLAIM: what a copy that is done wrote, all of it in order, is document 01's text of the file, and reading ended where and as it says, with its plan in the
+-- memory. The file is all that was given, in order, and whatever comes behind it where the input had not ended. The source counts all that was given, and the sink
+-- all that was written.
+pub record Whole (given written after : List ℕ) (e : Ending) : Type 0 where
+  pub text-is : (more : List ℕ) → (e .rest .source .ended ≡ true → more ≡ []) → written ≡ fileText (given ++ more)
+  pub end-is : (more : List ℕ) → (e .rest .source .ended ≡ true → more ≡ []) → record { refusal = e .refusal; place = e .place; plan = stateOf after } ≡ fileEnd (given ++ more)
+  pub all-given : e .rest .source .given ≡ length given
+  pub all-written : e .rest .sink .written ≡ length written
+
+abbrev pub AnyCopy : Type 0
+AnyCopy = (from to : ℤ) (size : ℕ) (after input-left output-left : List ℕ) (e : Ending) → RUN-BYTES ≤ size → (c : CopyPromise from to size after input-left output-left (Done e))
+    → Whole (c .given ++ givenIn (c .ends)) (c .written ++ writtenIn (c .ends)) after e
+
+-- a turn was given a byte, or wrote one, or is the last
+abbrev pub EachMoves : Type 0
+EachMoves = (m : List ℕ) (rest : Rest) (input output after input-left output-left : List ℕ) (next : Rest) (w : Turning m rest input output after input-left output-left (Goes next))
+    → (1 ≤ length (givenIn w)) ⊎ (1 ≤ length (writtenIn w))
+
+-- so that turns are spent only by as many bytes
+abbrev pub FewTurns : Type 0
+FewTurns = (from to : ℤ) (size : ℕ) (after input-left output-left : List ℕ) (t : Turned) (c : CopyPromise from to size after input-left output-left t)
+    → c .turns ≤ length (c .given) + length (c .written)

@@ -1,2 +1,2 @@
-pub mod Pumps
+pub mod Turnings
 pub mod Copies

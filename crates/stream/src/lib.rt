@@ -1,97 +1,53 @@
-// Files of house records: what is read from one descriptor is taken in parts, and its lines are written to another.
+// Files of house records: what a source gives is taken in turns, and the lines are handed to a sink. This crate calls no function of the system: what is read and
+// written passes through `descriptors` alone.
 ghost use mathlib.Core.Path.{_≡_};
-ghost use Prim.Native.Nat.{_+_, _≤_, _<_};
-ghost use lib.ListN.{length};
-ghost use Rattle.run.specs.Runs.{InRun};
-ghost use Rattle.blocks.specs.Places.{maskTable};
-ghost use Rattle.stream.specs.Pumps.{pumpedAs, PumpPromise};
-ghost use Rattle.stream.specs.Copies.{TakesOn, Handed, HandsOn};
+ghost use Prim.Native.Nat.{_+_, _-_, _≤_};
+ghost use lib.ListN.{length, take, drop};
+ghost use Rattle.meaning.specs.Basics.{writtenOver};
+ghost use Rattle.buffer.specs.Zeros.{zeros};
 ghost use Rattle.record.specs.Promises.{start};
+ghost use Rattle.descriptors.specs.Moves.{MOST, SendPromise};
+ghost use Rattle.stream.specs.Turnings.{SupplyPromise, Suppliable, Supplies, Gatherable, unreadOf, turnedBy, Turnable, TurnPromise};
+ghost use Rattle.stream.specs.Copies.{BUFFER, CopyPromise};
+use descriptors::AtHand;
+use descriptors::Sink;
+use descriptors::Source;
+use pump::Pumped;
 use record::Run;
-use record::Stepped;
 
-// What the steps over the input at hand did: how many bytes they took and wrote, the state behind them, and whether the output is full or reading has ended; else
-// the input holds no whole record any more.
-pub struct Pumped {
-    pub taken: usize,
-    pub written: usize,
-    pub run: Run,
-    pub full: bool,
-    pub over: bool,
-}
-
-fn stopped(taken: usize, written: usize, run: Run, full: bool, over: bool) -> Pumped
-    ensures { λ r. ⌜ r ≡ pumpedAs taken written run full over ⌝ }
-{
-    Pumped {
-        taken: taken,
-        written: written,
-        run: run,
-        full: full,
-        over: over,
-    }
-}
-
-// Takes steps over the input at hand until none can be taken, by a table of masks.
-fn pump_by(
-    masks: &[u8],
-    plan: &mut [u8],
-    run: Run,
-    ended: bool,
-    input: &[u8],
-    output: &mut [u8],
-) -> Pumped
-    requires { ⌜ InRun (now plan) (run .opened) × (now masks ≡ maskTable) ⌝ }
-    ensures { λ r. ⌜ PumpPromise (now (plan .entry)) run ended (now (input .entry)) (now (output .entry)) (now (plan .exit)) (now (output .exit)) r ⌝ }
-{
-    let mut now = run;
-    let mut at: usize = 0;
-    let mut end: usize = 0;
-    while end <= output.len() {
-        match record::step_by(masks, plan, now, ended, &input[at..], &mut output[end..]) {
-            Stepped::Wrote(line) => {
-                at += line.taken;
-                end += line.written;
-                now = line.run;
-            }
-            Stepped::Wants => return stopped(at, end, now, false, false),
-            Stepped::Full => return stopped(at, end, now, true, false),
-            Stepped::Ends(n) => return stopped(at, end + n, now, false, true),
-        }
-    }
-    stopped(at, end, now, false, false)
-}
-
-// The same; the table is made here, once for all the steps.
-pub fn pump(plan: &mut [u8], run: Run, ended: bool, input: &[u8], output: &mut [u8]) -> Pumped
-    requires { ⌜ InRun (now plan) (run .opened) ⌝ }
-    ensures { λ r. ⌜ PumpPromise (now (plan .entry)) run ended (now (input .entry)) (now (output .entry)) (now (plan .exit)) (now (output .exit)) r ⌝ }
-{
-    let mut masks = [0xffu8; 64];
-    blocks::mask_digits(&mut masks);
-    pump_by(&masks, plan, run, ended, input, output)
-}
-
-// THE FILES
-
-// What is left behind a part of the input: the state of the run, and how many of its bytes were taken, or are not taken yet.
+// Where a copy stands between two turns: the state of the run, the source and the sink, and the bytes of the input that are at hand, from `at` to `end`: those
+// before `at` are taken.
 pub struct Rest {
     pub run: Run,
-    pub have: usize,
+    pub source: Source,
+    pub sink: Sink,
+    pub at: usize,
+    pub end: usize,
 }
 
-// How a turn ended.
+// Reading has ended: the refusal that ended it, or 0 where the file has come to its end; the place in the file of that record's kind byte, or of the file's end; and
+// where the copy stands.
+pub struct Ending {
+    pub refusal: u8,
+    pub place: u64,
+    pub rest: Rest,
+}
+
+// How a turn ended, or all of them: it goes on, reading has ended, a read or a write failed, or the turns are spent.
 pub enum Turned {
     Goes(Rest),
-    Done,
-    NotRead,
-    NotWritten,
+    Done(Ending),
+    NotRead(Rest),
+    NotWritten(Rest),
+    Spent(Rest),
 }
 
+// The most turns of a copy.
+const TURNS: u64 = 140737488355328;
+
 // The state that a run begins with: the memory is cleared, so that it holds no plan.
-pub fn begin(plan: &mut [u8]) -> Run
-    requires { ⌜ 15424 ≤ length (now plan) ⌝ }
-    ensures { λ r. ⌜ (r ≡ start) × InRun (now (plan .exit)) (r .opened) ⌝ }
+fn begin(plan: &mut [u8]) -> Run
+    ensures { λ r. ⌜ (r ≡ start) × (now (plan .exit) ≡ zeros (length (now (plan .entry)))) ⌝ }
 {
     buffer::clear(plan);
     Run {
@@ -100,86 +56,136 @@ pub fn begin(plan: &mut [u8]) -> Run
     }
 }
 
-// Takes what the input at hand holds, and writes its lines.
-fn drain(to: i32, plan: &mut [u8], run: Run, ended: bool, input: &[u8], output: &mut [u8]) -> Turned
-    requires { ⌜ InRun (now plan) (run .opened) × (41 ≤ length (now output)) ⌝ }
-    ensures { λ r. ⌜ TakesOn (now (plan .exit)) (length (now (input .entry))) r ⌝ }
+// ONE TURN
+
+// Moves what is left of the input to its front, and answers how many bytes that is; the bytes behind them stay.
+fn settle(at: usize, end: usize, input: &mut [u8]) -> usize
+    requires { ⌜ (at ≤ end) × (end ≤ length (now input)) ⌝ }
+    ensures { λ r. ⌜ r ≡ end - at ⌝ }
+    ensures { λ _. ⌜ now (input .exit) ≡ writtenOver (take (end - at) (drop at (now (input .entry)))) (now (input .entry)) ⌝ }
 {
-    let mut now = run;
-    let mut at: usize = 0;
-    let mut turns = u64::MAX;
-    while turns > 0 {
-        let p = pump(plan, now, ended, &input[at..], output);
-        let written = p.written;
-        if !io::write_all(to, &output[0..written]) {
-            return Turned::NotWritten;
-        }
-        if p.over {
-            return Turned::Done;
-        }
-        at += p.taken;
-        now = p.run;
-        if !p.full {
-            return Turned::Goes(Rest { run: now, have: at });
-        }
-        turns -= 1;
-    }
-    Turned::Done
+    buffer::shift_down(&mut input[0..end], at);
+    end - at
 }
 
-// One read, and the lines of what is there; what is not taken yet moves to the front of the input.
-fn turn(
-    from: i32,
-    to: i32,
-    plan: &mut [u8],
-    rest: Rest,
-    input: &mut [u8],
-    output: &mut [u8],
-) -> Turned
-    requires { ⌜ Handed (now plan) rest × (74 ≤ length (now input)) × (41 ≤ length (now output)) ⌝ }
-    ensures { λ r. ⌜ HandsOn (now (plan .exit)) r ⌝ }
+// The input at hand: what is left, and what one read gives behind it. No read is made where the input has ended or a whole record is left.
+fn supply(source: Source, left: usize, input: &mut [u8]) -> AtHand
+    requires { ⌜ Suppliable source left (now input) ⌝ }
+    ensures { λ r. ⌜ SupplyPromise source left (now (input .entry)) (now (input .exit)) r ⌝ }
 {
-    let have = rest.have;
-    let run = rest.run;
-    let got = libc::read(from, &mut input[have..]);
-    if got < 0 {
-        return Turned::NotRead;
+    if source.ended() {
+        return AtHand {
+            end: left,
+            source: source,
+        };
     }
-    let n = io::count(got, &input[have..]);
-    let end = have + n;
-    match drain(to, plan, run, n == 0, &input[0..end], output) {
-        Turned::Goes(r) => {
-            let taken = r.have;
-            let now = r.run;
-            buffer::shift_down(&mut input[0..end], taken);
-            Turned::Goes(Rest {
-                run: now,
-                have: end - taken,
-            })
-        }
-        Turned::Done => Turned::Done,
-        Turned::NotRead => Turned::NotRead,
-        Turned::NotWritten => Turned::NotWritten,
+    if record::is_whole(&input[0..left]) {
+        return AtHand {
+            end: left,
+            source: source,
+        };
     }
+    descriptors::fill(source, left, input)
 }
+
+// What is left moves to the front, and is supplied.
+fn gather(rest: Rest, input: &mut [u8]) -> AtHand
+    requires { ⌜ Gatherable rest (length (now input)) ⌝ }
+    ensures { λ r. ⌜ Supplies rest (now (input .entry)) (now (input .exit)) r ⌝ }
+{
+    let left = settle(rest.at, rest.end, input);
+    supply(rest.source, left, input)
+}
+
+// A read failed: what was left is at hand, and nothing of it is taken.
+fn unread(rest: Rest, h: AtHand) -> Rest
+    ensures { λ r. ⌜ r ≡ unreadOf rest h ⌝ }
+{
+    let source = h.source;
+    let mut now = rest;
+    now.source = source;
+    now.at = 0;
+    now.end = h.end;
+    now
+}
+
+// Hands out what the steps wrote: the front of the output.
+fn hand(sink: Sink, p: Pumped, output: &[u8]) -> Sink
+    requires { ⌜ (p .written ≤ length (now output)) × (sink .written + p .written ≤ MOST) ⌝ }
+    ensures { λ r. ⌜ SendPromise sink (p .written) r ⌝ }
+{
+    let n = p.written;
+    descriptors::write(sink, &output[0..n], n, output)
+}
+
+// How a turn ended, by what was at hand, what the steps over it did, and what became of their text.
+fn conclude(h: AtHand, p: Pumped, sink: Sink) -> Turned
+    requires { ⌜ (p .taken ≤ h .end) × (h .end - p .taken ≤ h .source .given) ⌝ }
+    ensures { λ r. ⌜ r ≡ turnedBy h p sink ⌝ }
+{
+    let source = h.source;
+    let run = p.run;
+    let rest = Rest {
+        run: run,
+        source: source,
+        sink: sink,
+        at: p.taken,
+        end: h.end,
+    };
+    if sink.failed() {
+        return Turned::NotWritten(rest);
+    }
+    if !p.over {
+        return Turned::Goes(rest);
+    }
+    let left = h.end - p.taken;
+    Turned::Done(Ending {
+        refusal: p.refusal,
+        place: source.given() - left as u64,
+        rest: rest,
+    })
+}
+
+// A read behind what is left, steps over what is at hand, and a write of what they wrote.
+fn turn(plan: &mut [u8], rest: Rest, input: &mut [u8], output: &mut [u8]) -> Turned
+    requires { ⌜ Turnable (now plan) rest (length (now input)) (length (now output)) ⌝ }
+    ensures { λ r. ⌜ TurnPromise (now (plan .entry)) rest (now (input .entry)) (now (output .entry)) (now (plan .exit)) (now (input .exit)) (now (output .exit)) r ⌝ }
+{
+    let h = gather(rest, input);
+    let source = h.source;
+    if source.failed() {
+        return Turned::NotRead(unread(rest, h));
+    }
+    let end = h.end;
+    let p = pump::pump(plan, rest.run, source.ended(), &input[0..end], output);
+    let sink = hand(rest.sink, p, output);
+    conclude(h, p, sink)
+}
+
+// ALL TURNS
 
 // Writes to one descriptor the lines of the house records that another gives, to its end or until reading has ended.
 pub fn copy(from: i32, to: i32, plan: &mut [u8], input: &mut [u8], output: &mut [u8]) -> Turned
     requires { ⌜ (15424 ≤ length (now plan)) × (74 ≤ length (now input)) × (41 ≤ length (now output)) ⌝ }
+    requires { ⌜ (length (now input) ≤ BUFFER) × (length (now output) ≤ BUFFER) ⌝ }
+    ensures { λ r. ⌜ CopyPromise from to (length (now (plan .entry))) (now (plan .exit)) (now (input .exit)) (now (output .exit)) r ⌝ }
 {
+    let run = begin(plan);
     let mut rest = Rest {
-        run: begin(plan),
-        have: 0,
+        run: run,
+        source: Source::new(from),
+        sink: Sink::new(to),
+        at: 0,
+        end: 0,
     };
-    let mut turns = u64::MAX;
+    let mut turns = TURNS;
     while turns > 0 {
-        match turn(from, to, plan, rest, input, output) {
-            Turned::Goes(r) => rest = r,
-            Turned::Done => return Turned::Done,
-            Turned::NotRead => return Turned::NotRead,
-            Turned::NotWritten => return Turned::NotWritten,
-        }
+        let t = turn(plan, rest, input, output);
+        let Turned::Goes(next) = t else {
+            return t;
+        };
+        rest = next;
         turns -= 1;
     }
-    Turned::Done
+    Turned::Spent(rest)
 }

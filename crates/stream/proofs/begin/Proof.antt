@@ -1,7 +1,6 @@
 -- The memory is cleared.
 use mathlib.Core.Path.{refl}
 use borrow.Author.Needs.{needs}
-use Rattle.stream.proofs.Beginning.{cleared}
 use Rattle.stream.proofs.begin.Statement.{statement}
 use Rattle.stream.proofs.begin.Tie as tie
 
@@ -12,7 +11,7 @@ same-length : tie.Need-same-length
 same-length c = search needs
 
 returns : tie.Need-returns
-returns c = (refl, rw (c .before .before .clear .ensures) (cleared _ (c .before .before .before .before .before .pre)))
+returns c = (refl, c .before .before .clear .ensures)
 
 pub begin-spec : {M : Type 1} → statement M
 begin-spec = tie.close (tie.spec clear-requires same-length returns)

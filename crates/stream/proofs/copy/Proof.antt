@@ -1,13 +1,16 @@
--- Between two reads the run's state is handed on (`Copying`).
-use mathlib.Core.Path.{refl}
-use native.Mathlib.Omega.{arith}
+-- Between two turns a chain of them has been taken (`Copying`).
+use mathlib.Core.Path.{_≡_}
+use mir.Syntax.{w32}
+use mir.Val.{toZ}
 use borrow.Author.Needs.{needs}
-use Rattle.stream.proofs.Draining.{Copying, handed-by}
+use Rattle.stream.proofs.Copying.{Copying, first-is, copying-start, copying-more, copying-last, copying-spent, never, as-lent}
+use Rattle.stream.specs.declared.Rest.{Rest}
+use Rattle.stream.specs.declared.Turned.the-variants.{Goes}
 use Rattle.stream.proofs.copy.Statement.{statement}
 use Rattle.stream.proofs.copy.Tie as tie
 
 abbrev Inv-loop : tie.InvT-loop
-Inv-loop from to plan₀ input₀ output₀ rest₀ turns₀ plan input output rest turns = Copying plan₀ input₀ output₀ plan input output rest
+Inv-loop from to plan₀ input₀ output₀ rest₀ turns₀ plan input output rest turns = Copying (toZ w32 from) (toZ w32 to) plan₀ input₀ output₀ plan input output rest turns
 
 abbrev μ-loop : tie.MeasureT-loop
 μ-loop from to plan₀ input₀ output₀ rest₀ turns₀ plan input output rest turns = turns
@@ -15,65 +18,37 @@ abbrev μ-loop : tie.MeasureT-loop
 begin-requires : tie.Need-begin-requires Inv-loop μ-loop
 begin-requires c κs = search needs
 
+new-requires : tie.Need-new-requires Inv-loop μ-loop
+new-requires c κs = search needs
+
+new-requires-2 : tie.Need-new-requires-2 Inv-loop μ-loop
+new-requires-2 c κs = search needs
+
 loop-holds : tie.Need-loop-holds Inv-loop μ-loop
 loop-holds c =
-    record {
-      handed = record { in-run = c .before .before .begin .ensures .1; few = omega arith };
-      plan-size = refl;
-      input-size = refl;
-      output-size = refl;
-    }
+    let b = c .before .before .before .before .before .before .before .before .before in
+    copying-start (b .args .plan .now) (first-is (c .before .before .before .before .begin .ensures .0) (c .before .new .ensures) (c .new2 .ensures)) (c .before .before .before .before .begin .ensures .1) (c .before .before .before .before .begin .kept .0) (b .pre .0 .0) (b .pre .0 .1) (b .pre .0 .2) (b .pre .1 .0) (b .pre .1 .1)
 
 turn-requires : tie.Need-turn-requires Inv-loop μ-loop
-turn-requires c κs = let i = c .before .before .before .before .loop .inv in (i .handed, search (needs, i .input-size), search (needs, i .output-size))
+turn-requires c κs = c .before .before .before .before .loop .inv .ready
 
-enum-known-r : tie.Need-enum-known-r Inv-loop μ-loop
-enum-known-r c = search needs
-
-enum-told : tie.Need-enum-told Inv-loop μ-loop
-enum-told c = search needs
+enum-known-t : tie.Need-enum-known-t Inv-loop μ-loop
+enum-known-t c = search needs
 
 same-length : tie.Need-same-length Inv-loop μ-loop
-same-length c = search needs
+same-length c = search (needs, c .before .before .before .before .before .before .before .before .before .before .before .before .loop .inv .plan-size)
 
 same-length-2 : tie.Need-same-length-2 Inv-loop μ-loop
-same-length-2 c = search needs
+same-length-2 c = search (needs, c .before .before .before .before .before .before .before .before .before .before .before .before .loop .inv .input-size)
 
 same-length-3 : tie.Need-same-length-3 Inv-loop μ-loop
-same-length-3 c = search needs
+same-length-3 c = search (needs, c .before .before .before .before .before .before .before .before .before .before .before .before .loop .inv .output-size)
 
 returns : tie.Need-returns Inv-loop μ-loop
-returns c = search needs
-
-enum-told-2 : tie.Need-enum-told-2 Inv-loop μ-loop
-enum-told-2 c = search needs
-
-same-length-4 : tie.Need-same-length-4 Inv-loop μ-loop
-same-length-4 c = search needs
-
-same-length-5 : tie.Need-same-length-5 Inv-loop μ-loop
-same-length-5 c = search needs
-
-same-length-6 : tie.Need-same-length-6 Inv-loop μ-loop
-same-length-6 c = search needs
-
-returns-2 : tie.Need-returns-2 Inv-loop μ-loop
-returns-2 c = search needs
-
-enum-told-3 : tie.Need-enum-told-3 Inv-loop μ-loop
-enum-told-3 c = search needs
-
-same-length-7 : tie.Need-same-length-7 Inv-loop μ-loop
-same-length-7 c = search needs
-
-same-length-8 : tie.Need-same-length-8 Inv-loop μ-loop
-same-length-8 c = search needs
-
-same-length-9 : tie.Need-same-length-9 Inv-loop μ-loop
-same-length-9 c = search needs
-
-returns-3 : tie.Need-returns-3 Inv-loop μ-loop
-returns-3 c = search needs
+returns c =
+    let b = c .before .before .before .before .before .before .before .before .before .before .before .before .before .before .before .before .before .before .before .before .before .before in
+    let none : (next : Rest) → c .before .before .before .before .before .before .before .turn .result ≡ Goes next → ⊥ = λ next e. never (rw e at (c .match .keys2)) in
+    as-lent (b .fits .from) (b .fits .to) (c .before .before .before .before .before .before .before .before .before .before .before .before .before .before .before .before .before .begin .kept .0) (copying-last (c .before .before .before .before .before .before .before .before .before .before .before .before .loop .inv) (c .before .before .before .before .before .before .before .turn .ensures) none)
 
 sub-turns : tie.Need-sub-turns Inv-loop μ-loop
 sub-turns c = search needs
@@ -83,26 +58,20 @@ loop-less c = search needs
 
 loop-again : tie.Need-loop-again Inv-loop μ-loop
 loop-again c =
-    let s = c .before .before .before .before .before .before .before .before .before in
-    let i = s .before .before .before .before .before .loop .inv in
-    record {
-      handed = handed-by (s .turn .ensures) (c .before .r .given .1);
-      plan-size = search (needs, i .plan-size);
-      input-size = search (needs, i .input-size);
-      output-size = search (needs, i .output-size);
-    }
+    let t = c .before .before .before .before .before .before .before .before .before .turn in
+    copying-more (c .before .before .before .before .before .before .before .before .before .before .before .before .before .before .loop .inv) (t .ensures) (c .before .t .given .1) (search needs) (t .kept .0) (t .kept .1 .1 .0) (t .kept .1 .1 .1 .0)
 
-same-length-10 : tie.Need-same-length-10 Inv-loop μ-loop
-same-length-10 c = search needs
+same-length-4 : tie.Need-same-length-4 Inv-loop μ-loop
+same-length-4 c = search (needs, c .before .loop .inv .plan-size)
 
-same-length-11 : tie.Need-same-length-11 Inv-loop μ-loop
-same-length-11 c = search needs
+same-length-5 : tie.Need-same-length-5 Inv-loop μ-loop
+same-length-5 c = search (needs, c .before .loop .inv .input-size)
 
-same-length-12 : tie.Need-same-length-12 Inv-loop μ-loop
-same-length-12 c = search needs
+same-length-6 : tie.Need-same-length-6 Inv-loop μ-loop
+same-length-6 c = search (needs, c .before .loop .inv .output-size)
 
-returns-4 : tie.Need-returns-4 Inv-loop μ-loop
-returns-4 c = search needs
+returns-2 : tie.Need-returns-2 Inv-loop μ-loop
+returns-2 c = let b = c .before .before .before .before .before .before .before .before .before .before .before in as-lent (b .fits .from) (b .fits .to) (c .before .before .before .before .before .before .begin .kept .0) (copying-spent (c .before .loop .inv) (search needs))
 
 pub copy-spec : {M : Type 1} → statement M
 copy-spec =
@@ -111,28 +80,19 @@ copy-spec =
     Inv-loop
     μ-loop
     begin-requires
+    new-requires
+    new-requires-2
     loop-holds
     turn-requires
-    enum-known-r
-    enum-told
+    enum-known-t
     same-length
     same-length-2
     same-length-3
     returns
-    enum-told-2
-    same-length-4
-    same-length-5
-    same-length-6
-    returns-2
-    enum-told-3
-    same-length-7
-    same-length-8
-    same-length-9
-    returns-3
     sub-turns
     loop-less
     loop-again
-    same-length-10
-    same-length-11
-    same-length-12
-    returns-4)
+    same-length-4
+    same-length-5
+    same-length-6
+    returns-2)

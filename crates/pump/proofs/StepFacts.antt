@@ -20,7 +20,7 @@ use Rattle.text.specs.Writes.{LONGEST}
 use Rattle.run.specs.Runs.{RUN-BYTES}
 use Rattle.run.proofs.RunLaws.{memory-kept, run-state}
 use Rattle.record.specs.Turns.{Turn, wrote, wants, full, ends, LIST, listedTurn, listTurn, recordTurn, turnAt, turn}
-use Rattle.record.specs.Promises.{turnOf, textOf, planAfter, StepPromise}
+use Rattle.record.specs.Promises.{textOf, planAfter, StepPromise}
 use Rattle.record.specs.declared.Line.{Line}
 use Rattle.record.specs.declared.Stepped.{Stepped}
 use Rattle.record.specs.declared.Stepped.the-variants.{Wrote}
@@ -86,7 +86,7 @@ abbrev Long : Turn → Type 0
 Long (wrote text taken s lines) = 1 ≤ length text
 Long wants = Unit {0}
 Long full = Unit {0}
-Long (ends text) = Unit {0}
+Long (ends text refusal) = Unit {0}
 
 listing-long : (s : Option Plan) (lines : ℕ) → Long (listTurn s lines)
 listing-long none lines = no-long PLAN
@@ -101,7 +101,7 @@ unfolding turnAt recordTurn
 kind-long s lines ended k bytes = go (ltb 9 k) (ltb (length bytes) (bodyLength k)) ended (eqb k LIST)
   where
     go : (a b c d : Bool)
-        → Long (if a then ends (noLine KIND) else if b then (if c then ends (noLine CUT) else wants) else
+        → Long (if a then ends (noLine KIND) KIND else if b then (if c then ends (noLine CUT) CUT else wants) else
         if d then listTurn s lines else wrote (recordText s k (take (bodyLength k) bytes)) (1 + bodyLength k) (recordPlan s k (take (bodyLength k) bytes)) 0)
     go true b c d = tt
     go false true true d = tt
@@ -161,7 +161,7 @@ module _ (m : List ℕ) (h : RUN-BYTES ≤ length m) where
   kind-keeps lines ended k bytes = go (ltb 9 k) (ltb (length bytes) (bodyLength k)) ended (eqb k LIST)
     where
       go : (a b c d : Bool)
-          → Keeps (if a then ends (noLine KIND) else if b then (if c then ends (noLine CUT) else wants) else
+          → Keeps (if a then ends (noLine KIND) KIND else if b then (if c then ends (noLine CUT) CUT else wants) else
           if d then listTurn (stateOf m) lines else wrote (recordText (stateOf m) k (take (bodyLength k) bytes)) (1 + bodyLength k) (recordPlan (stateOf m) k (take (bodyLength k) bytes)) 0)
       go true b c d = kept
       go false true true d = kept

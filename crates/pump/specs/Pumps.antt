@@ -9,19 +9,23 @@ use Rattle.run.specs.Runs.{InRun}
 use Rattle.plan.specs.State.{stateOf}
 use Rattle.record.specs.Turns.{wants, full, turn}
 use Rattle.record.specs.declared.Run.{Run}
-use Rattle.record.specs.Promises.{Runs}
-use Rattle.stream.specs.declared.Pumped.{Pumped}
+use Rattle.record.specs.Promises.{Runs, RunEnd, runEndHere, runEndBehind}
+use Rattle.pump.specs.declared.Pumped.{Pumped}
 
-abbrev pub pumpedAs : ℕ → ℕ → Run → Bool → Bool → Pumped
-pumpedAs taken written run isFull isOver = record { taken = taken; written = written; run = run; full = isFull; over = isOver }
+abbrev pub pumpedAs : ℕ → ℕ → Run → Bool → Bool → ℕ → Pumped
+pumpedAs taken written run isFull isOver refusal = record { taken = taken; written = written; run = run; full = isFull; over = isOver; refusal = refusal }
 
 -- THE PROMISE: what was written is the text of steps over the input at hand, whatever comes behind it; `rest` is what the input goes on with
 pub record PumpPromise (m : List ℕ) (run : Run) (ended : Bool) (input output after left : List ℕ) (r : Pumped) : Type 0 where
   -- every run of steps over what is left makes one over all of it
-  pub goes-on : r .over ≡ false → (rest texts : List ℕ) → (ended ≡ true → rest ≡ []) → Runs after (r .run) (drop (r .taken) (input ++ rest)) texts
-      → Runs m run (input ++ rest) (take (r .written) left ++ texts)
-  -- or reading has ended
-  pub ends : r .over ≡ true → (rest : List ℕ) → (ended ≡ true → rest ≡ []) → Runs m run (input ++ rest) (take (r .written) left)
+  pub goes-on : r .over ≡ false → (rest texts : List ℕ) (e : RunEnd) → (ended ≡ true → rest ≡ []) → Runs after (r .run) (drop (r .taken) (input ++ rest)) texts e
+      → Runs m run (input ++ rest) (take (r .written) left ++ texts) (runEndBehind (r .taken) e)
+  -- or reading has ended, at the place of what is not taken
+  pub ends : r .over ≡ true → (rest : List ℕ) → (ended ≡ true → rest ≡ [])
+      → Runs m run (input ++ rest) (take (r .written) left) (runEndBehind (r .taken) (runEndHere (r .refusal) after))
+  pub none-yet : r .over ≡ false → r .refusal ≡ 0
+  -- where no line was written nothing was done
+  pub idle : r .over ≡ false → r .written ≡ 0 → (after ≡ m) × (r .taken ≡ 0) × (r .run ≡ run)
   -- "the bytes behind them stay"
   pub behind : drop (r .written) left ≡ drop (r .written) output
   pub same-size : length left ≡ length output

@@ -3,13 +3,13 @@ use Prim.Native.Nat.{_-_}
 use native.Mathlib.Omega.{arith}
 use lib.ListN.{length}
 use borrow.Author.Needs.{needs}
-use Rattle.stream.proofs.Pumping.{Going, going-start, after-size, line-goes, line-takes, line-fits, line-less, wants-stops, full-stops, end-stops, end-fits}
-use Rattle.stream.proofs.pump_by.Statement.{statement}
-use Rattle.stream.proofs.pump_by.Tie as tie
-use Rattle.stream.proofs.pump_by.Reads as reads
-use Rattle.stream.proofs.pump_by.Lts as lts
+use Rattle.pump.proofs.Pumping.{Going, going-start, after-size, line-goes, line-takes, line-fits, line-less, wants-stops, full-stops, end-stops, end-fits}
+use Rattle.pump.proofs.pump_by.Statement.{statement}
+use Rattle.pump.proofs.pump_by.Tie as tie
+use Rattle.pump.proofs.pump_by.Reads as reads
+use Rattle.pump.proofs.pump_by.Lts as lts
 use Rattle.record.proofs.step.Reads as step-reads
-use Rattle.stream.proofs.stopped.Reads as stopped-reads
+use Rattle.pump.proofs.stopped.Reads as stopped-reads
 
 abbrev Inv-loop : tie.InvT-loop
 Inv-loop masks plan₀ ended input output₀ now₀ at₀ end₀ plan output now at end = Going plan₀ now₀ ended input output₀ plan now at end output
@@ -100,26 +100,26 @@ same-length-4 c = search needs
 returns-2 : tie.Need-returns-2 Inv-loop μ-loop
 returns-2 c = let s = c .before .before .before .before .before .before .before in rw (c .stopped2 .ensures) (full-stops (s .before .before .before .before .before .loop .inv) (s .step-by .ensures) (c .before .enum-told2 .given .1))
 
-enum-known-n : tie.Need-enum-known-n Inv-loop μ-loop
-enum-known-n c = search needs
+enum-known-last : tie.Need-enum-known-last Inv-loop μ-loop
+enum-known-last c = search needs
 
 add-stopped : tie.Need-add-stopped Inv-loop μ-loop
 add-stopped c =
-    let s = c .before .before .before .before .before .before .before in
-    let most = end-fits (s .before .before .before .before .before .loop .inv) (s .step-by .ensures) (c .before .n .given .1) in
-    record { fits = omega (arith, most, c .before .before .before .before .before .before .before .before .before .before .before .before .before .before .before .before .before .good .1 .1 .1 .1 .1 .0) }
+    let s = c .before .before .before .before .before .before .before .before in
+    let most = end-fits (s .before .before .before .before .before .loop .inv) (s .step-by .ensures) (c .before .before .last .given .1) in
+    record { fits = omega (arith, most, c .before .before .before .before .before .before .before .before .before .before .before .before .before .before .before .before .before .before .good .1 .1 .1 .1 .1 .0) }
 
 stopped-requires-3 : tie.Need-stopped-requires-3 Inv-loop μ-loop
 stopped-requires-3 c κs = search needs
 
 same-length-5 : tie.Need-same-length-5 Inv-loop μ-loop
-same-length-5 c = let s = c .before .before .before .before .before .before .before .before in after-size (s .before .before .before .before .before .loop .inv) (s .step-by .ensures)
+same-length-5 c = let s = c .before .before .before .before .before .before .before .before .before in after-size (s .before .before .before .before .before .loop .inv) (s .step-by .ensures)
 
 same-length-6 : tie.Need-same-length-6 Inv-loop μ-loop
 same-length-6 c = search needs
 
 returns-3 : tie.Need-returns-3 Inv-loop μ-loop
-returns-3 c = let s = c .before .before .before .before .before .before .before .before in rw (c .stopped3 .ensures) (end-stops (s .before .before .before .before .before .loop .inv) (s .step-by .ensures) (c .before .before .n .given .1))
+returns-3 c = let s = c .before .before .before .before .before .before .before .before .before in rw (c .stopped3 .ensures) (end-stops (s .before .before .before .before .before .loop .inv) (s .step-by .ensures) (c .before .before .before .last .given .1))
 
 stopped-requires-4 : tie.Need-stopped-requires-4 Inv-loop μ-loop
 stopped-requires-4 c κs = search needs
@@ -162,7 +162,7 @@ pump-by-spec =
     same-length-3
     same-length-4
     returns-2
-    enum-known-n
+    enum-known-last
     add-stopped
     stopped-requires-3
     same-length-5

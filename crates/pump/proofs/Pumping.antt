@@ -1,10 +1,11 @@
 -- How the steps over the input at hand go on: every run of steps over what is left makes one over all of it.
 use Prim.Native.Nat.{ℕ, _+_, _-_, _≤_, _<_, zero-le}
 use mathlib.Core.Path.{_≡_, refl, ap, ap₂, sym, subst, _∙_}
-use mathlib.Core.Bool.{Bool, true, false}
-use mathlib.Core.List.{List, [], _∷_, _++_, append-assoc, append-nil}
+use mathlib.Core.Bool.{Bool, true, false, true≢false, false≢true}
+use mathlib.Core.List.{List, [], _++_, append-assoc, append-nil}
+use native.Mathlib.Nat.{zero-add, add-assoc}
 use native.Mathlib.Omega.{arith}
-use lib.ListN.{length, take, drop, length-append, length-drop, drop-of-length-le, take-append-drop}
+use lib.ListN.{length, take, drop, length-append, length-drop, drop-of-length-le}
 use lib.Dec.{ltb}
 use borrow.Author.Tests.{ltb-true, ltb-false}
 use lib.Seq.{take-all, take-at, drop-at, take-add, drop-drop, drop-append-le, length-take-le}
@@ -12,19 +13,18 @@ use borrow.Rule.Slice.PartMut.{midOf, putMid, postOf, post-is}
 use Rattle.meaning.specs.Basics.{writtenOver}
 use Rattle.plan.specs.State.{stateOf}
 use Rattle.text.specs.Writes.{LONGEST}
-use Rattle.run.specs.Runs.{RUN-BYTES, InRun}
-use Rattle.run.proofs.RunLaws.{memory-kept}
-use Rattle.record.specs.Turns.{Turn, turn}
+use Rattle.run.specs.Runs.{InRun}
+use Rattle.record.specs.Turns.{turn, isWhole}
 use Rattle.record.specs.Cuts.{Cut}
-use Rattle.record.specs.Promises.{turnOf, writtenBy, textOf, planAfter, StepPromise, Runs, next, last}
+use Rattle.record.specs.Promises.{writtenBy, textOf, StepPromise, Runs, next, last, RunEnd, runEndHere, runEndBehind}
 use Rattle.record.specs.declared.Run.{Run}
 use Rattle.record.specs.declared.Line.{Line}
+use Rattle.record.specs.declared.Last.{Last}
 use Rattle.record.specs.declared.Stepped.{Stepped}
 use Rattle.record.specs.declared.Stepped.the-variants.{Wrote, Wants, Full, Ends}
-use Rattle.record.proofs.Steps.{left-is, wants-keeps, full-keeps, next-in-run, ended-no-wants, enough-no-wants, room-no-full, taken-inside}
-use Rattle.stream.proofs.StepFacts.{writes-some, step-size}
-use Rattle.stream.specs.Pumps.{pumpedAs, PumpPromise}
-use Rattle.stream.specs.declared.Pumped.{Pumped}
+use Rattle.record.proofs.Steps.{wants-keeps, full-keeps, ends-keeps, next-in-run, ended-no-wants, whole-no-wants, not-whole-few, room-no-full, taken-inside}
+use Rattle.pump.proofs.StepFacts.{writes-some, step-size}
+use Rattle.pump.specs.Pumps.{pumpedAs, PumpPromise}
 
 -- THE LENT PARTS
 
@@ -58,9 +58,16 @@ module _ (out lent : List ℕ) (end : ℕ) (h : end ≤ length out) where
   behind-is : (w : ℕ) → drop (end + w) (take end out ++ lent) ≡ drop w lent
   behind-is w = sym (drop-drop w end (take end out ++ lent)) ∙ ap (drop w) (drop-at (take end out) lent end front-long)
 
-not-ended : (b : Bool) → (b ≡ true → ⊥) → b ≡ false
-not-ended true f = absurd (f refl)
-not-ended false f = refl
+never-true : (b : Bool) → (b ≡ true → ⊥) → b ≡ false
+never-true true f = absurd (f refl)
+never-true false f = refl
+
+-- an end behind no bytes, and behind the bytes of two steps
+none-before : (e : RunEnd) → runEndBehind 0 e ≡ e
+none-before e = rw (zero-add (e .place))
+
+both-before : (a b : ℕ) (e : RunEnd) → runEndBehind (a + b) e ≡ runEndBehind a (runEndBehind b e)
+both-before a b e = rw (add-assoc a b (e .place))
 
 -- THE LOOP
 
@@ -71,11 +78,22 @@ pub record Going (m : List ℕ) (run : Run) (ended : Bool) (input out : List ℕ
   pub room : end ≤ length out
   pub long : length left ≡ length out
   pub behind : drop end left ≡ drop end out
-  pub extends : (rest texts : List ℕ) → (ended ≡ true → rest ≡ []) → Runs now so (drop at (input ++ rest)) texts → Runs m run (input ++ rest) (take end left ++ texts)
+  pub idle : end ≡ 0 → (now ≡ m) × (at ≡ 0) × (so ≡ run)
+  pub extends : (rest texts : List ℕ) (e : RunEnd) → (ended ≡ true → rest ≡ []) → Runs now so (drop at (input ++ rest)) texts e
+      → Runs m run (input ++ rest) (take end left ++ texts) (runEndBehind at e)
 
 pub going-start : (m : List ℕ) (run : Run) (ended : Bool) (input out : List ℕ) → InRun m (run .opened) → Going m run ended input out m run 0 0 out
 going-start m run ended input out h =
-    record { in-run = h; size = refl; inside = zero-le; room = zero-le; long = refl; behind = refl; extends = λ rest texts e r. r }
+    record {
+      in-run = h;
+      size = refl;
+      inside = zero-le;
+      room = zero-le;
+      long = refl;
+      behind = refl;
+      idle = λ z. (refl, refl, refl);
+      extends = λ rest texts e l r. rw (none-before e) r;
+    }
 
 module _ {m : List ℕ} {run : Run} {ended : Bool} {input out now : List ℕ} {so : Run} {at end : ℕ} {left : List ℕ} (g : Going m run ended input out now so at end left) where
   -- the part of the input at hand, in any file that goes on with `rest`
@@ -150,25 +168,28 @@ module _ {m : List ℕ} {run : Run} {ended : Bool} {input out now : List ℕ} {s
         room = fits-behind q;
         long = back-long q ∙ g .long;
         behind = back-behind q;
-        extends = λ rest texts e r.
-            let next-left : Runs after (l .run) (drop (l .taken) (drop at (input ++ rest))) texts =
-            subst (λ (x : List ℕ). Runs after (l .run) x texts) (sym (drop-drop (l .taken) at (input ++ rest))) r in
-            let all : Runs m run (input ++ rest) (take end left ++ (take (l .written) lent ++ texts)) =
-            g .extends rest (take (l .written) lent ++ texts) e (next (cut rest e) p next-left) in
-            subst (Runs m run (input ++ rest)) (sym (append-assoc (take end left) (take (l .written) lent) texts) ∙ ap (λ (x : List ℕ). x ++ texts) (sym (front-now q))) all;
+        idle = λ z. absurd (omega (arith, writes-some p));
+        extends = λ rest texts e o r.
+            let next-left : Runs after (l .run) (drop (l .taken) (drop at (input ++ rest))) texts e =
+            subst (λ (x : List ℕ). Runs after (l .run) x texts e) (sym (drop-drop (l .taken) at (input ++ rest))) r in
+            rw (front-now q, append-assoc (take end left) (take (l .written) lent) texts, both-before at (l .taken) e)
+            (g .extends rest (take (l .written) lent ++ texts) (runEndBehind (l .taken) e) o (next (cut rest o) p next-left));
       })
 
   -- nothing was written, and the memory is as it was: no whole record is left, or there is no room for a line
   pub going-wants : {after lent : List ℕ}
       → StepPromise now (so .lines) ended (take (length input - at) (drop at input)) (midOf end (length left - end) left) after lent Wants
-      → PumpPromise m run ended input out after (putMid end (length left - end) left lent) (pumpedAs at end so false false)
+      → PumpPromise m run ended input out after (putMid end (length left - end) left lent) (pumpedAs at end so false false 0)
   going-wants {after} {lent} q =
       let p = step q in
       let kept : after ≡ now = wants-keeps p in
+      let few : length (drop at input) < 74 = not-whole-few (drop at input) (never-true (isWhole (drop at input)) (λ w. whole-no-wants w p)) in
       rw (given-back left lent end here, kept)
       (record {
-        goes-on = λ o rest texts e r. subst (λ (x : List ℕ). Runs m run (input ++ rest) (x ++ texts)) (sym (same-front refl q)) (g .extends rest texts e r);
-        ends = λ o. absurd (let z : _≡_ {A = ℕ} 0 1 = cc in omega arith);
+        goes-on = λ o rest texts e l r. rw (same-front refl q) (g .extends rest texts e l r);
+        ends = λ o. absurd (false≢true o);
+        none-yet = λ o. refl;
+        idle = λ o. g .idle;
         behind = same-behind refl q;
         same-size = back-long q ∙ g .long;
         memory-size = g .size;
@@ -176,37 +197,32 @@ module _ {m : List ℕ} {run : Run} {ended : Bool} {input out now : List ℕ} {s
         room = g .room;
         in-run = g .in-run;
         stops-wanting = λ o f. ap (turn (stateOf now) (so .lines) ended (drop at input)) room-left ∙ sym (p .turn-is);
-        stops-full = λ f. absurd (let z : _≡_ {A = ℕ} 0 1 = cc in omega arith);
-        wants-more = λ o f. (few p, not-ended ended (λ e. ended-no-wants e p));
-        no-room = λ f. absurd (let z : _≡_ {A = ℕ} 0 1 = cc in omega arith);
+        stops-full = λ f. absurd (false≢true f);
+        wants-more = λ o f. (rw (length-drop at input) at few, never-true ended (λ e. ended-no-wants e p));
+        no-room = λ f. absurd (false≢true f);
       })
-    where
-      few : StepPromise now (so .lines) ended (drop at input) (drop end left) after lent Wants → length input - at < 74
-      few p = go (ltb (length input - at) 74) refl
-        where
-          go : (b : Bool) → ltb (length input - at) 74 ≡ b → length input - at < 74
-          go true t = ltb-true (length input - at) 74 t
-          go false t = absurd (enough-no-wants (rw (length-drop at input) (ltb-false (length input - at) 74 t)) p)
 
   pub going-full : {after lent : List ℕ}
       → StepPromise now (so .lines) ended (take (length input - at) (drop at input)) (midOf end (length left - end) left) after lent Full
-      → PumpPromise m run ended input out after (putMid end (length left - end) left lent) (pumpedAs at end so true false)
+      → PumpPromise m run ended input out after (putMid end (length left - end) left lent) (pumpedAs at end so true false 0)
   going-full {after} {lent} q =
       let p = step q in
       let kept : after ≡ now = full-keeps p in
       rw (given-back left lent end here, kept)
       (record {
-        goes-on = λ o rest texts e r. subst (λ (x : List ℕ). Runs m run (input ++ rest) (x ++ texts)) (sym (same-front refl q)) (g .extends rest texts e r);
-        ends = λ o. absurd (let z : _≡_ {A = ℕ} 0 1 = cc in omega arith);
+        goes-on = λ o rest texts e l r. rw (same-front refl q) (g .extends rest texts e l r);
+        ends = λ o. absurd (false≢true o);
+        none-yet = λ o. refl;
+        idle = λ o. g .idle;
         behind = same-behind refl q;
         same-size = back-long q ∙ g .long;
         memory-size = g .size;
         inside = g .inside;
         room = g .room;
         in-run = g .in-run;
-        stops-wanting = λ o f. absurd (let z : _≡_ {A = ℕ} 0 1 = cc in omega arith);
+        stops-wanting = λ o f. absurd (true≢false f);
         stops-full = λ f. ap (turn (stateOf now) (so .lines) ended (drop at input)) room-left ∙ sym (p .turn-is);
-        wants-more = λ o f. absurd (let z : _≡_ {A = ℕ} 0 1 = cc in omega arith);
+        wants-more = λ o f. absurd (true≢false f);
         no-room = λ f. small p;
       })
     where
@@ -220,26 +236,28 @@ module _ {m : List ℕ} {run : Run} {ended : Bool} {input out now : List ℕ} {s
               absurd (room-no-full (rw (length-drop end left, g .long) h) p)
 
   -- reading has ended, with the last line
-  pub going-ends : {after lent : List ℕ} {n : ℕ}
-      → StepPromise now (so .lines) ended (take (length input - at) (drop at input)) (midOf end (length left - end) left) after lent (Ends n)
-      → PumpPromise m run ended input out after (putMid end (length left - end) left lent) (pumpedAs at (end + n) so false true)
-  going-ends {after} {lent} {n} q =
+  pub going-ends : {after lent : List ℕ} {l : Last}
+      → StepPromise now (so .lines) ended (take (length input - at) (drop at input)) (midOf end (length left - end) left) after lent (Ends l)
+      → PumpPromise m run ended input out after (putMid end (length left - end) left lent) (pumpedAs at (end + l .written) so false true (l .refusal))
+  going-ends {after} {lent} {l} q =
       let p = step q in
-      let kept : after ≡ now = left-is p ∙ memory-kept now in
+      let kept : after ≡ now = ends-keeps p in
       rw (given-back left lent end here)
       (record {
-        goes-on = λ o. absurd (let z : _≡_ {A = ℕ} 0 1 = cc in omega arith);
-        ends = λ o rest e. subst (Runs m run (input ++ rest)) (sym (front-now q)) (g .extends rest (take n lent) e (last (cut rest e) p));
+        goes-on = λ o. absurd (true≢false o);
+        ends = λ o rest e. rw (front-now q) (g .extends rest (take (l .written) lent) (runEndHere (l .refusal) after) e (last (cut rest e) p));
+        none-yet = λ o. absurd (true≢false o);
+        idle = λ o. absurd (true≢false o);
         behind = back-behind q;
         same-size = back-long q ∙ g .long;
         memory-size = after-size q;
         inside = g .inside;
         room = fits-behind q;
         in-run = rw kept (g .in-run);
-        stops-wanting = λ o. absurd (let z : _≡_ {A = ℕ} 0 1 = cc in omega arith);
-        stops-full = λ f. absurd (let z : _≡_ {A = ℕ} 0 1 = cc in omega arith);
-        wants-more = λ o. absurd (let z : _≡_ {A = ℕ} 0 1 = cc in omega arith);
-        no-room = λ f. absurd (let z : _≡_ {A = ℕ} 0 1 = cc in omega arith);
+        stops-wanting = λ o. absurd (true≢false o);
+        stops-full = λ f. absurd (false≢true f);
+        wants-more = λ o. absurd (true≢false o);
+        no-room = λ f. absurd (false≢true f);
       })
 
   -- what the next turn of the loop begins with
@@ -270,14 +288,15 @@ module _ {m : List ℕ} {run : Run} {ended : Bool} {input out now : List ℕ} {s
     pub line-less : {l : Line} → r ≡ Wrote l → length out - (end + l .written) < length out - end
     line-less e = less-room (told e)
 
-    pub wants-stops : r ≡ Wants → PumpPromise m run ended input out after (putMid end (length left - end) left lent) (pumpedAs at end so false false)
+    pub wants-stops : r ≡ Wants → PumpPromise m run ended input out after (putMid end (length left - end) left lent) (pumpedAs at end so false false 0)
     wants-stops e = going-wants (told e)
 
-    pub full-stops : r ≡ Full → PumpPromise m run ended input out after (putMid end (length left - end) left lent) (pumpedAs at end so true false)
+    pub full-stops : r ≡ Full → PumpPromise m run ended input out after (putMid end (length left - end) left lent) (pumpedAs at end so true false 0)
     full-stops e = going-full (told e)
 
-    pub end-stops : {n : ℕ} → r ≡ Ends n → PumpPromise m run ended input out after (putMid end (length left - end) left lent) (pumpedAs at (end + n) so false true)
+    pub end-stops : {l : Last} → r ≡ Ends l
+        → PumpPromise m run ended input out after (putMid end (length left - end) left lent) (pumpedAs at (end + l .written) so false true (l .refusal))
     end-stops e = going-ends (told e)
 
-    pub end-fits : {n : ℕ} → r ≡ Ends n → end + n ≤ length out
+    pub end-fits : {l : Last} → r ≡ Ends l → end + l .written ≤ length out
     end-fits e = more-bytes (told e)

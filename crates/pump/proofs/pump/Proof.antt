@@ -1,8 +1,8 @@
 -- By the table that was made.
 use borrow.Author.Needs.{needs}
 use Rattle.blocks.proofs.MaskLaws.{masks-none}
-use Rattle.stream.proofs.pump.Statement.{statement}
-use Rattle.stream.proofs.pump.Tie as tie
+use Rattle.pump.proofs.pump.Statement.{statement}
+use Rattle.pump.proofs.pump.Tie as tie
 
 slice-aggregate-mask-digits : tie.Need-slice-aggregate-mask-digits
 slice-aggregate-mask-digits c = search needs

@@ -1,0 +1,2 @@
+pub mod StepFacts
+pub mod Pumping

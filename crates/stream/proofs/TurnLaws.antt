@@ -1,0 +1,213 @@
+-- One turn: every run of steps over what it leaves, and whatever comes behind, makes one over what was left, what was given and the same behind.
+use Prim.Native.Nat.{ℕ, _+_, _-_, _≤_}
+use mathlib.Core.Path.{_≡_, refl, ap, ap₂, sym, subst, _∙_}
+use mathlib.Core.Logic.{_⊎_, inl, inr}
+use mathlib.Core.Bool.{Bool, true, false}
+use mathlib.Core.List.{List, [], _∷_, _++_, append-assoc}
+use native.Mathlib.Omega.{arith}
+use lib.ListN.{length, take, drop, length-drop, take-append-drop}
+use lib.Dec.{ltb}
+use borrow.Author.Tests.{ltb-true, ltb-false}
+use lib.Seq.{take-take, drop-append-le, length-take-le}
+use Rattle.meaning.specs.Basics.{if_then_else_}
+use Rattle.buffer.proofs.ListLaws.{drop-take}
+use Rattle.plan.specs.State.{stateOf}
+use Rattle.text.specs.Writes.{LONGEST}
+use Rattle.record.specs.Turns.{wants, turn, isWhole}
+use Rattle.record.specs.declared.Run.{Run}
+use Rattle.record.specs.Promises.{Runs, RunEnd, runEndHere, runEndBehind}
+use Rattle.record.proofs.Steps.{room-turn-goes, ended-turn-goes, whole-turn-goes}
+use Rattle.pump.specs.Pumps.{PumpPromise}
+use Rattle.pump.specs.declared.Pumped.{Pumped}
+use Rattle.descriptors.specs.Moves.{MOST, sent}
+use Rattle.descriptors.specs.declared.Sink.{Sink}
+use Rattle.descriptors.specs.declared.AtHand.{AtHand}
+use Rattle.stream.specs.Turnings.{leftOf, leftIn, Supplies, restBy, endingBy, turnedBy, Turnable, Turning}
+use Rattle.stream.specs.Copies.{givenIn, writtenIn}
+use Rattle.stream.specs.declared.Rest.{Rest}
+use Rattle.stream.specs.declared.Ending.{Ending}
+use Rattle.stream.specs.declared.Turned.{Turned}
+use Rattle.stream.specs.declared.Turned.the-variants.{Goes, Done}
+use Rattle.stream.proofs.HandFacts.{Hand, hand-facts}
+
+-- the place in the file where what is left begins
+abbrev pub placeOf : Rest → ℕ
+placeOf rest = rest .source .given - leftOf rest
+
+-- HOW IT ENDED, by the answer
+
+module _ (h : AtHand) (p : Pumped) (sink : Sink) (n : ℕ) where
+  goes-by : (done : Bool) {next : Rest} → Goes next ≡ turnedBy h p (sent sink n done) → (p .over ≡ false) × (next ≡ restBy h p (sent sink n true))
+  goes-by true {next} e = go (p .over) refl e
+    where
+      go : (o : Bool) → p .over ≡ o → Goes next ≡ (if o then Done (endingBy h p (sent sink n true)) else Goes (restBy h p (sent sink n true)))
+          → (p .over ≡ false) × (next ≡ restBy h p (sent sink n true))
+      go true i e = absurd (let z : _≡_ {A = ℕ} 0 1 = cc in omega arith)
+      go false i e = (i, cc)
+  goes-by false e = absurd (let z : _≡_ {A = ℕ} 0 1 = cc in omega arith)
+
+  done-by : (done : Bool) {e : Ending} → Done e ≡ turnedBy h p (sent sink n done) → (p .over ≡ true) × (e ≡ endingBy h p (sent sink n true))
+  done-by true {e} i = go (p .over) refl i
+    where
+      go : (o : Bool) → p .over ≡ o → Done e ≡ (if o then Done (endingBy h p (sent sink n true)) else Goes (restBy h p (sent sink n true)))
+          → (p .over ≡ true) × (e ≡ endingBy h p (sent sink n true))
+      go true o i = (o, cc)
+      go false o i = absurd (let z : _≡_ {A = ℕ} 0 1 = cc in omega arith)
+  done-by false i = absurd (let z : _≡_ {A = ℕ} 0 1 = cc in omega arith)
+
+-- WHAT WAS AT HAND
+
+pub hand-of : {m : List ℕ} {rest : Rest} {room : ℕ} (input input-left : List ℕ) (h : AtHand) → Turnable m rest (length input) room → Supplies rest input input-left h → Hand rest input input-left h
+hand-of {rest = rest} input input-left h r s = hand-facts rest input input-left h (r .left .placed) (r .left .inside) s
+
+module _ {m : List ℕ} {rest : Rest} {input output after input-left output-left : List ℕ} {t : Turned} (w : Turning m rest input output after input-left output-left t) where
+  abbrev h : AtHand
+  h = w .h
+
+  abbrev p : Pumped
+  p = w .p
+
+  pub at-hand : Hand rest input input-left (w .h)
+  at-hand = hand-of input input-left (w .h) (w .ready) (w .supplies)
+
+  hand-long : length (take (h .end) input-left) ≡ h .end
+  hand-long = length-take-le (h .end) input-left (omega (arith, at-hand .inside, at-hand .long))
+
+  taken-inside : p .taken ≤ h .end
+  taken-inside = omega (arith, w .steps .inside, hand-long)
+
+  -- what was left, and what was given behind it
+  joined : leftIn rest input ++ givenIn w ≡ take (h .end) input-left
+  joined =
+      ap (λ (l : List ℕ). l ++ givenIn w) (sym (at-hand .kept) ∙ sym (take-take (leftOf rest) (h .end) input-left (at-hand .more)))
+      ∙ take-append-drop (leftOf rest) (take (h .end) input-left)
+
+  whole : (more : List ℕ) → take (h .end) input-left ++ more ≡ leftIn rest input ++ (givenIn w ++ more)
+  whole more = ap (λ (l : List ℕ). l ++ more) (sym joined) ∙ append-assoc (leftIn rest input) (givenIn w) more
+
+  given-long : length (givenIn w) ≡ h .end - leftOf rest
+  given-long = length-drop (leftOf rest) (take (h .end) input-left) ∙ ap (λ (n : ℕ). n - leftOf rest) hand-long
+
+  pub written-long : length (writtenIn w) ≡ p .written
+  written-long = length-take-le (p .written) output-left (omega (arith, w .steps .room, w .steps .same-size))
+
+  -- behind the end nothing is given, and it stays the end
+  pub none-behind : (more : List ℕ) → (h .source .ended ≡ true → more ≡ []) → rest .source .ended ≡ true → givenIn w ++ more ≡ []
+  none-behind more e t =
+      let n = at-hand .ended-none t in
+      ap₂ (λ (a b : List ℕ). a ++ b) (empty (givenIn w) (omega (arith, given-long, n .0))) (e (n .1))
+    where
+      empty : (l : List ℕ) → length l ≡ 0 → l ≡ []
+      empty [] e = refl
+      empty (x ∷ xs) e = absurd (omega (arith, e))
+
+  -- IT GOES ON
+
+  module _ (over : p .over ≡ false) where
+    abbrev next : Rest
+    next = restBy h p (sent (rest .sink) (p .written) true)
+
+    pub goes-on : (more texts : List ℕ) (e : RunEnd) → (h .source .ended ≡ true → more ≡ []) → Runs after (p .run) (leftIn next input-left ++ more) texts e
+        → Runs m (rest .run) (leftIn rest input ++ (givenIn w ++ more)) (writtenIn w ++ texts) (runEndBehind (p .taken) e)
+    goes-on more texts e last runs =
+        let behind : leftIn next input-left ++ more ≡ drop (p .taken) (take (h .end) input-left ++ more) =
+        ap (λ (l : List ℕ). l ++ more) (sym (drop-take (p .taken) (h .end) input-left taken-inside))
+        ∙ sym (drop-append-le (p .taken) (take (h .end) input-left) more (w .steps .inside)) in
+        subst (λ (l : List ℕ). Runs m (rest .run) l (writtenIn w ++ texts) (runEndBehind (p .taken) e)) (whole more)
+        (w .steps .goes-on over more texts e last (subst (λ (l : List ℕ). Runs after (p .run) l texts e) behind runs))
+
+    -- what the next turn asks for, as long as the counts have room
+    pub next-ready : h .source .given + length input ≤ MOST → rest .sink .written + p .written + length output ≤ MOST → Turnable after next (length input-left) (length output-left)
+    next-ready c d =
+        record {
+          in-run = w .steps .in-run;
+          left =
+              record {
+                placed = taken-inside;
+                inside = omega (arith, at-hand .inside, at-hand .long);
+                enough = omega (arith, w .ready .left .enough, at-hand .long);
+                counted = omega (arith, c, at-hand .long);
+              };
+          given = omega (arith, at-hand .counted, w .ready .given, at-hand .more, taken-inside);
+          room = omega (arith, w .ready .room, w .steps .same-size);
+          told = omega (arith, d, w .steps .same-size);
+        }
+
+    -- a byte was given, or one was written
+    pub moves : 1 ≤ length (givenIn w) + length (writtenIn w)
+    moves = go (ltb 0 (length (givenIn w) + length (writtenIn w))) refl
+      where
+        stuck : h .end ≡ leftOf rest → p .written ≡ 0 → ⊥
+        stuck none idle = kind (p .full) refl
+          where
+            same : (after ≡ m) × (p .taken ≡ 0) × (p .run ≡ rest .run)
+            same = w .steps .idle over idle
+
+            room : LONGEST ≤ length output - p .written
+            room = omega (arith, idle, w .ready .room)
+
+            -- all that was left is at hand, and nothing more
+            part-is : drop (p .taken) (take (h .end) input-left) ≡ leftIn rest input
+            part-is = ap₂ (λ (a e : ℕ). drop a (take e input-left)) (same .1) none ∙ at-hand .kept
+
+            kind : (b : Bool) → p .full ≡ b → ⊥
+            kind true f = room-turn-goes (stateOf after) (p .run .lines) (h .source .ended) (drop (p .taken) (take (h .end) input-left)) (length output - p .written) room (w .steps .stops-full f)
+            kind false f = why (at-hand .idle-why (w .read) none)
+              where
+                wanting : turn (stateOf after) (p .run .lines) (h .source .ended) (drop (p .taken) (take (h .end) input-left)) (length output - p .written) ≡ wants
+                wanting = w .steps .stops-wanting over f
+
+                why : (h .source .ended ≡ true) ⊎ (isWhole (leftIn rest input) ≡ true) → ⊥
+                why (inl e) =
+                    ended-turn-goes (stateOf after) (p .run .lines) (drop (p .taken) (take (h .end) input-left)) (length output - p .written)
+                    (subst (λ (b : Bool). turn (stateOf after) (p .run .lines) b (drop (p .taken) (take (h .end) input-left)) (length output - p .written) ≡ wants) e wanting)
+                why (inr e) =
+                    whole-turn-goes (stateOf after) (p .run .lines) (h .source .ended) (drop (p .taken) (take (h .end) input-left)) (length output - p .written) (rw part-is e) wanting
+
+        go : (b : Bool) → ltb 0 (length (givenIn w) + length (writtenIn w)) ≡ b → 1 ≤ length (givenIn w) + length (writtenIn w)
+        go true t = omega (arith, ltb-true 0 (length (givenIn w) + length (writtenIn w)) t)
+        go false t =
+            let few = ltb-false 0 (length (givenIn w) + length (writtenIn w)) t in
+            absurd (stuck (omega (arith, few, given-long, at-hand .more)) (omega (arith, few, written-long)))
+
+  -- READING HAS ENDED
+
+  pub ends : p .over ≡ true → (more : List ℕ) → (h .source .ended ≡ true → more ≡ [])
+      → Runs m (rest .run) (leftIn rest input ++ (givenIn w ++ more)) (writtenIn w) (runEndBehind (p .taken) (runEndHere (p .refusal) after))
+  ends over more last =
+      subst (λ (l : List ℕ). Runs m (rest .run) l (writtenIn w) (runEndBehind (p .taken) (runEndHere (p .refusal) after))) (whole more) (w .steps .ends over more last)
+
+  -- THE COUNTS
+
+  pub place-on : placeOf rest + p .taken ≡ h .source .given - (h .end - p .taken)
+  place-on = omega (arith, at-hand .counted, w .ready .given, at-hand .more, taken-inside)
+
+  pub given-on : h .source .given ≡ rest .source .given + length (givenIn w)
+  given-on = at-hand .counted ∙ ap (λ (n : ℕ). rest .source .given + n) (sym given-long)
+
+-- BY THE ANSWER
+
+module _ {m : List ℕ} {rest : Rest} {input output after input-left output-left : List ℕ} where
+  pub went : {next : Rest} (w : Turning m rest input output after input-left output-left (Goes next))
+      → (w .p .over ≡ false) × (next ≡ restBy (w .h) (w .p) (sent (rest .sink) (w .p .written) true))
+  went w = goes-by (w .h) (w .p) (rest .sink) (w .p .written) (w .done) (w .is)
+
+  pub ended-so : {e : Ending} (w : Turning m rest input output after input-left output-left (Done e))
+      → (w .p .over ≡ true) × (e ≡ endingBy (w .h) (w .p) (sent (rest .sink) (w .p .written) true))
+  ended-so w = done-by (w .h) (w .p) (rest .sink) (w .p .written) (w .done) (w .is)
+
+-- FOR THE FUNCTION
+
+-- steps over the input that is lent are steps over what is at hand
+pub steps-at-hand : {m output after output-left : List ℕ} {run : Run} {ended said : Bool} {p : Pumped} (e : ℕ) (input : List ℕ) → said ≡ ended
+    → PumpPromise m run said (take (e - 0) input) output after output-left p → PumpPromise m run ended (take e input) output after output-left p
+steps-at-hand e input i q = let same : e - 0 ≡ e = omega arith in rw (same, i) at q
+
+pub may-conclude : {m : List ℕ} {rest : Rest} {output after output-left : List ℕ} {run : Run} {ended : Bool} {p : Pumped} (input input-left : List ℕ) (h : AtHand) → Turnable m rest (length input) (length output)
+    → Supplies rest input input-left h → PumpPromise m run ended (take (h .end - 0) input-left) output after output-left p
+    → (p .taken ≤ h .end) × (h .end - p .taken ≤ h .source .given)
+may-conclude {p = p} input input-left h r s q =
+    let f = hand-of input input-left h r s in
+    let long : length (take (h .end - 0) input-left) ≡ h .end - 0 = length-take-le (h .end - 0) input-left (omega (arith, f .inside, f .long)) in
+    let taken : p .taken ≤ h .end = omega (arith, q .inside, long) in
+    (taken, omega (arith, f .counted, r .given, f .more, taken))
