@@ -1,2 +1,3 @@
 pub mod StepFacts
+pub mod SomeRuns
 pub mod Pumping

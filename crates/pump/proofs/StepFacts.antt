@@ -129,31 +129,34 @@ writes-some {m} {input} {output} {after} {written} {lines} {ended} {l} p =
     ap-text : {a b : Turn} → a ≡ b → length (textOf a) ≡ length (textOf b)
     ap-text {a} {b} e = subst (λ (x : Turn). length (textOf a) ≡ length (textOf x)) e refl
 
--- THE MEMORY KEEPS ITS SIZE
+-- THE MEMORY holds the plan that the turn leaves, and keeps its size
 
 module _ (m : List ℕ) (h : RUN-BYTES ≤ length m) where
-  abbrev Keeps : Turn → Type 0
-  Keeps t = length (memoryOf (planAfter t (stateOf m)) m) ≡ length m
+  abbrev KeepsPlan : Option Plan → Type 0
+  KeepsPlan s = (stateOf (memoryOf s m) ≡ s) × (length (memoryOf s m) ≡ length m)
 
-  kept : length (memoryOf (stateOf m) m) ≡ length m
-  kept = ap length (memory-kept m)
+  abbrev pub Keeps : Turn → Type 0
+  Keeps t = KeepsPlan (planAfter t (stateOf m))
+
+  kept : KeepsPlan (stateOf m)
+  kept = (ap stateOf (memory-kept m), ap length (memory-kept m))
 
   list-keeps : (s : Option Plan) (lines : ℕ) → stateOf m ≡ s → Keeps (listTurn s lines)
-  list-keeps none lines e = subst (λ (o : Option Plan). length (memoryOf o m) ≡ length m) e kept
+  list-keeps none lines e = subst KeepsPlan e kept
   list-keeps (some p) lines e = go (getElem? (listing p) lines)
     where
       go : (o : Option Listed) → Keeps (listedTurn p lines o)
-      go none = subst (λ (o : Option Plan). length (memoryOf o m) ≡ length m) e kept
-      go (some l) = subst (λ (o : Option Plan). length (memoryOf o m) ≡ length m) e kept
+      go none = subst KeepsPlan e kept
+      go (some l) = subst KeepsPlan e kept
 
-  record-keeps : (k : ℕ) (body : List ℕ) → length (memoryOf (recordPlan (stateOf m) k body) m) ≡ length m
+  record-keeps : (k : ℕ) (body : List ℕ) → KeepsPlan (recordPlan (stateOf m) k body)
   unfolding recordPlan
   record-keeps k body = go (leb k 6)
     where
-      go : (b : Bool) → length (memoryOf (if b then after lacksProgramRoom (stateOf m) (callOf k body) else stateOf m) m) ≡ length m
+      go : (b : Bool) → KeepsPlan (if b then after lacksProgramRoom (stateOf m) (callOf k body) else stateOf m)
       go true =
           run-state (callOf k body) m (memoryOf (after lacksProgramRoom (stateOf m) (callOf k body)) m) (refusal lacksProgramRoom (stateOf m) (callOf k body)) h
-          (record { number-is = refl; memory-is = refl }) .1
+          (record { number-is = refl; memory-is = refl })
       go false = kept
 
   kind-keeps : (lines : ℕ) (ended : Bool) (k : ℕ) (bytes : List ℕ) → Keeps (turnAt (stateOf m) lines ended k bytes)
@@ -169,7 +172,7 @@ module _ (m : List ℕ) (h : RUN-BYTES ≤ length m) where
       go false false c true = list-keeps (stateOf m) lines refl
       go false false c false = record-keeps k (take (bodyLength k) bytes)
 
-  turn-keeps : (lines : ℕ) (ended : Bool) (part : List ℕ) (room : ℕ) → Keeps (turn (stateOf m) lines ended part room)
+  pub turn-keeps : (lines : ℕ) (ended : Bool) (part : List ℕ) (room : ℕ) → Keeps (turn (stateOf m) lines ended part room)
   turn-keeps lines true [] room = kept
   turn-keeps lines false [] room = kept
   turn-keeps lines ended (k ∷ bytes) room = go (ltb room LONGEST)
@@ -180,4 +183,4 @@ module _ (m : List ℕ) (h : RUN-BYTES ≤ length m) where
 
   pub step-size : {input output after written : List ℕ} {lines : ℕ} {ended : Bool} {r : Stepped} → StepPromise m lines ended input output after written r
       → length after ≡ length m
-  step-size {input} {output} {lines = lines} {ended = ended} p = ap length (p .memory-is) ∙ turn-keeps lines ended input (length output)
+  step-size {input} {output} {lines = lines} {ended = ended} p = ap length (p .memory-is) ∙ turn-keeps lines ended input (length output) .1

@@ -2,26 +2,29 @@
 use Prim.Native.Nat.{ℕ, zero, suc, _+_, _-_, _≤_}
 use mathlib.Core.Path.{_≡_, refl, ap, sym, subst, _∙_}
 use mathlib.Core.Logic.{_⊎_, inl, inr}
-use mathlib.Core.Bool.{true, false}
-use mathlib.Core.List.{List, [], _++_, append-assoc}
+use mathlib.Core.Bool.{Bool, true, false}
+use mathlib.Core.List.{List, [], _++_, append-assoc, append-nil}
 use native.Mathlib.Omega.{arith}
 use lib.IntN.{ℤ}
 use lib.ListN.{length, take, drop, length-append}
 use Rattle.meaning.specs.Records.{fileText, fileEnd}
 use Rattle.buffer.specs.Zeros.{zeros}
+use Rattle.buffer.proofs.ZeroLaws.{length-zeros}
 use Rattle.plan.specs.State.{stateOf}
 use Rattle.run.specs.Runs.{RUN-BYTES}
 use Rattle.record.specs.Promises.{Runs, RunEnd, runEndHere, runEndBehind, endOf, start}
 use Rattle.record.proofs.Steps.{any-run}
+use Rattle.pump.proofs.SomeRuns.{SomeRun, some-run}
 use Rattle.descriptors.specs.Moves.{sent}
+use Rattle.descriptors.specs.declared.Source.{Source}
 use Rattle.stream.specs.Turnings.{leftOf, leftIn, restBy, endingBy, Turning}
-use Rattle.stream.specs.Copies.{givenIn, writtenIn, Chain, begun, turned, CopyPromise, Whole, AnyCopy, EachMoves, FewTurns}
+use Rattle.stream.specs.Copies.{givenIn, writtenIn, Chain, begun, turned, CopyPromise, Whole, AnyCopy, Begins, AnyFront, AnyUnwritten, EachMoves, FewTurns}
 use Rattle.stream.specs.declared.Rest.{Rest}
 use Rattle.stream.specs.declared.Ending.{Ending}
 use Rattle.stream.specs.declared.Turned.{Turned}
-use Rattle.stream.specs.declared.Turned.the-variants.{Goes, Done}
+use Rattle.stream.specs.declared.Turned.the-variants.{Goes, Done, NotWritten}
 use Rattle.stream.proofs.Beginning.{cleared}
-use Rattle.stream.proofs.TurnLaws.{placeOf, went, ended-so, goes-on, ends, none-behind, moves, place-on, given-on, written-long}
+use Rattle.stream.proofs.TurnLaws.{placeOf, went, ended-so, unwritten-so, goes-on, ends, none-behind, moves, place-on, given-on, written-long}
 
 -- places add up
 end-behind : (a b n : ℕ) (e : RunEnd) → a + b ≡ n → runEndBehind a (runEndBehind b e) ≡ runEndBehind n e
@@ -59,6 +62,11 @@ module _ {from to : ℤ} {size : ℕ} where
   few-turns begun = omega arith
   few-turns (turned {n} {given} {written} c w) =
       rw (length-append given (givenIn w), length-append written (writtenIn w)) (omega (arith, few-turns c, moves w (went w .0)))
+
+  -- the memory has room for every plan of a run
+  memory-room : RUN-BYTES ≤ size → {n : ℕ} {given written m input : List ℕ} {rest : Rest} → Chain from to size n given written m rest input → RUN-BYTES ≤ length m
+  memory-room h begun = rw (length-zeros size) h
+  memory-room h (turned c w) = w .steps .in-run .room
 
   extends : {n : ℕ} {given written m input : List ℕ} {rest : Rest} → Chain from to size n given written m rest input → Extends size given written m input rest
   extends begun = λ more texts e last r.
@@ -100,6 +108,46 @@ any-copy from to size after input-left output-left e h c = subst (Whole (c .give
               ap (λ (k : ℕ). k + w .p .written) (all-written (c .chain))
               ∙ (ap (λ (k : ℕ). length (c .written) + k) (sym (written-long w)) ∙ sym (length-append (c .written) (writtenIn w)));
         }
+
+-- a run over all that was given, and its text
+all-text : (size : ℕ) {file text : List ℕ} {e : RunEnd} → RUN-BYTES ≤ size → Runs (zeros size) start file text e → text ≡ fileText file
+all-text size {file} {text} {e} h r = any-run (zeros size) file text e (cleared size h) r .0
+
+pub any-front : AnyFront
+any-front from to size after input-left output-left t h c more last =
+    let left : List ℕ = leftIn (c .rest) (c .input) ++ more in
+    let r : SomeRun (c .memory) (c .rest .run) left = some-run (c .memory) (c .rest .run) left (memory-room h (c .chain)) in
+    record { behind = r .text; is = sym (all-text size h (extends (c .chain) more (r .text) (r .end) last (r .runs))) }
+
+pub any-unwritten : AnyUnwritten
+any-unwritten from to size after input-left output-left u h c more ended = go (w .p .over) refl
+  where
+    w : Turning (c .memory) (c .rest) (c .input) (c .output) after input-left output-left (NotWritten u)
+    w = c .ends
+
+    last : w .h .source .ended ≡ true → more ≡ []
+    last e = ended (ap (λ (x : Source). x .ended) (unwritten-so w) ∙ e)
+
+    at-hand : List ℕ
+    at-hand = leftIn (c .rest) (c .input) ++ (givenIn w ++ more)
+
+    -- the text of the turn, and what the file goes on with
+    with-text : (texts : List ℕ) (e : RunEnd) → Runs (c .memory) (c .rest .run) at-hand (writtenIn w ++ texts) e
+        → Begins (fileText ((c .given ++ givenIn w) ++ more)) (c .written ++ writtenIn w)
+    with-text texts e r =
+        let all : c .written ++ (writtenIn w ++ texts) ≡ fileText (c .given ++ (givenIn w ++ more)) =
+        all-text size h (extends (c .chain) (givenIn w ++ more) (writtenIn w ++ texts) e (none-behind w more last) r) in
+        record { behind = texts; is = ap fileText (append-assoc (c .given) (givenIn w) more) ∙ (sym all ∙ sym (append-assoc (c .written) (writtenIn w) texts)) }
+
+    end : RunEnd
+    end = runEndBehind (w .p .taken) (runEndHere (w .p .refusal) after)
+
+    go : (b : Bool) → w .p .over ≡ b → Begins (fileText ((c .given ++ givenIn w) ++ more)) (c .written ++ writtenIn w)
+    go true o = with-text [] end (subst (λ (x : List ℕ). Runs (c .memory) (c .rest .run) at-hand x end) (sym (append-nil (writtenIn w))) (ends w o more last))
+    go false o =
+        let left : List ℕ = leftIn (restBy (w .h) (w .p) (sent (c .rest .sink) (w .p .written) true)) input-left ++ more in
+        let r : SomeRun after (w .p .run) left = some-run after (w .p .run) left (w .steps .in-run .room) in
+        with-text (r .text) (runEndBehind (w .p .taken) (r .end)) (goes-on w o more (r .text) (r .end) last (r .runs))
 
 pub each-moves : EachMoves
 each-moves m rest input output after input-left output-left next w = either (length (givenIn w)) (length (writtenIn w)) (moves w (went w .0))

@@ -27,7 +27,7 @@ use Rattle.stream.specs.Copies.{givenIn, writtenIn}
 use Rattle.stream.specs.declared.Rest.{Rest}
 use Rattle.stream.specs.declared.Ending.{Ending}
 use Rattle.stream.specs.declared.Turned.{Turned}
-use Rattle.stream.specs.declared.Turned.the-variants.{Goes, Done}
+use Rattle.stream.specs.declared.Turned.the-variants.{Goes, Done, NotWritten}
 use Rattle.stream.proofs.HandFacts.{Hand, hand-facts}
 
 -- the place in the file where what is left begins
@@ -54,6 +54,14 @@ module _ (h : AtHand) (p : Pumped) (sink : Sink) (n : ℕ) where
       go true o i = (o, cc)
       go false o i = absurd (let z : _≡_ {A = ℕ} 0 1 = cc in omega arith)
   done-by false i = absurd (let z : _≡_ {A = ℕ} 0 1 = cc in omega arith)
+
+  unwritten-by : (done : Bool) {r : Rest} → NotWritten r ≡ turnedBy h p (sent sink n done) → r .source ≡ h .source
+  unwritten-by true {r} e = go (p .over) e
+    where
+      go : (o : Bool) → NotWritten r ≡ (if o then Done (endingBy h p (sent sink n true)) else Goes (restBy h p (sent sink n true))) → r .source ≡ h .source
+      go true e = absurd (let z : _≡_ {A = ℕ} 0 1 = cc in omega arith)
+      go false e = absurd (let z : _≡_ {A = ℕ} 0 1 = cc in omega arith)
+  unwritten-by false {r} e = let same : r ≡ restBy h p (sent sink n false) = cc in ap (λ (x : Rest). x .source) same
 
 -- WHAT WAS AT HAND
 
@@ -195,6 +203,9 @@ module _ {m : List ℕ} {rest : Rest} {input output after input-left output-left
   pub ended-so : {e : Ending} (w : Turning m rest input output after input-left output-left (Done e))
       → (w .p .over ≡ true) × (e ≡ endingBy (w .h) (w .p) (sent (rest .sink) (w .p .written) true))
   ended-so w = done-by (w .h) (w .p) (rest .sink) (w .p .written) (w .done) (w .is)
+
+  pub unwritten-so : {r : Rest} (w : Turning m rest input output after input-left output-left (NotWritten r)) → r .source ≡ w .h .source
+  unwritten-so w = unwritten-by (w .h) (w .p) (rest .sink) (w .p .written) (w .done) (w .is)
 
 -- FOR THE FUNCTION
 

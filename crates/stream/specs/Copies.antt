@@ -77,6 +77,21 @@ abbrev pub AnyCopy : Type 0
 AnyCopy = (from to : ℤ) (size : ℕ) (after input-left output-left : List ℕ) (e : Ending) → RUN-BYTES ≤ size → (c : CopyPromise from to size after input-left output-left (Done e))
     → Whole (c .given ++ givenIn (c .ends)) (c .written ++ writtenIn (c .ends)) after e
 
+-- WHATEVER ENDS A COPY, nothing else was written: the text of every file that begins with what was given begins with it
+pub record Begins (text front : List ℕ) : Type 0 where
+  pub behind : List ℕ
+  pub is : text ≡ front ++ behind
+
+abbrev pub AnyFront : Type 0
+AnyFront = (from to : ℤ) (size : ℕ) (after input-left output-left : List ℕ) (t : Turned) → RUN-BYTES ≤ size → (c : CopyPromise from to size after input-left output-left t)
+    → (more : List ℕ) → (c .rest .source .ended ≡ true → more ≡ []) → Begins (fileText (c .given ++ more)) (c .written)
+
+-- and so does a text that was handed out and could not be written, or not all of it
+abbrev pub AnyUnwritten : Type 0
+AnyUnwritten = (from to : ℤ) (size : ℕ) (after input-left output-left : List ℕ) (r : Rest) → RUN-BYTES ≤ size
+    → (c : CopyPromise from to size after input-left output-left (NotWritten r)) → (more : List ℕ) → (r .source .ended ≡ true → more ≡ [])
+    → Begins (fileText ((c .given ++ givenIn (c .ends)) ++ more)) (c .written ++ writtenIn (c .ends))
+
 -- a turn was given a byte, or wrote one, or is the last
 abbrev pub EachMoves : Type 0
 EachMoves = (m : List ℕ) (rest : Rest) (input output after input-left output-left : List ℕ) (next : Rest) (w : Turning m rest input output after input-left output-left (Goes next))
