@@ -34,7 +34,7 @@ module _ (s : Source) (have room : ℕ) (got : ℤ) (fits : SFits w64 got) where
       go (pos k) f e = rw e refl
       go (negsuc k) f e = absurd (let z : _≡_ {A = ℕ} 0 1 = cc in omega arith)
 
--- a text that was written is counted, and one that was not is none
+-- a text that was written is counted, and one that was not is not
 pub counted : (s : Sink) (n : ℕ) (done : Bool) → done ≡ true → record { fd = s .fd; written = s .written + n; failed = not done } ≡ sent s n done
 counted s n done e = rw e refl
 

@@ -1,9 +1,10 @@
 // Where the program's loop meets the system: `fill` reads behind what is left of the input, `write` writes the front of the output, and no other function of the loop
-// calls it. What they moved is counted in a source and a sink. Their fields are private: no other crate can count a byte, claim an end or take back a failure.
+// calls it. What they moved is counted in a source and a sink, whose fields are private: another crate has them from `new`, `fill` and `write` alone. They can be
+// copied, so that each answer is handed on is read where the two are called.
 ghost use mathlib.Core.Path.{_≡_};
 ghost use Prim.Native.Nat.{_+_, _≤_};
-ghost use lib.ListN.{length, take};
-ghost use Rattle.descriptors.specs.Moves.{MOST, newSource, atHand, Fillable, FillPromise, newSink, sent, SendPromise};
+ghost use lib.ListN.{length};
+ghost use Rattle.descriptors.specs.Moves.{MOST, newSource, atHand, Fillable, FillPromise, newSink, sent, Writable, WritePromise};
 
 // A descriptor that is read: how many bytes it gave, whether it has come to its end, and whether a read failed.
 pub struct Source {
@@ -13,7 +14,7 @@ pub struct Source {
     failed: bool,
 }
 
-// A descriptor that is written: how many bytes it took, and whether a write failed.
+// A descriptor that is written: how many bytes it took in writes that did not fail, and whether one failed.
 pub struct Sink {
     fd: i32,
     written: u64,
@@ -126,8 +127,8 @@ fn after_write(sink: Sink, n: usize, done: bool) -> Sink
 
 // Writes a text: the front of the output, so many bytes of it and nothing else.
 pub fn write(sink: Sink, text: &[u8], n: usize, output: &[u8]) -> Sink
-    requires { ⌜ (now text ≡ take n (now output)) × (sink .written + n ≤ MOST) ⌝ }
-    ensures { λ r. ⌜ SendPromise sink n r ⌝ }
+    requires { ⌜ Writable sink n (now text) (now output) ⌝ }
+    ensures { λ r. ⌜ WritePromise sink n r ⌝ }
 {
     let done = io::write_all(sink.fd, text);
     after_write(sink, n, done)

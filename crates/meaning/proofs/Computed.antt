@@ -24,7 +24,7 @@ use Rattle.meaning.specs.Reads.{Read, Count, Listed, conditionedBy, cond
 use Rattle.meaning.specs.Calls.{Call, bodyLength, openingLines, addSetLines, replaceSetLines, removeSetLines, addRuleLines, changeRuleLines, removeRuleLines, refusal, lacksBytes, after, putIn, refusalsFrom}
 use Rattle.meaning.specs.LookBack.{accepted, lastOpening, lastContent, lastSet}
 use Rattle.meaning.specs.History.{rising}
-use Rattle.meaning.specs.Records.{decimal, digitText, okLine, noLine, numberLine, refsLine, listedLine, endLine, lacksProgramRoom, operationOf, callOf, recordText, recordPlan, fileText}
+use Rattle.meaning.specs.Records.{decimal, digitText, okLine, noLine, numberLine, refsLine, listedLine, endLine, lacksProgramRoom, operationOf, callOf, recordText, recordPlan, fileText, End, fileEnd}
 use Rattle.meaning.specs.Answers.{codeOf, classOf, outgoingOf, numberOfRefusal}
 use Rattle.meaning.specs.declared.ClassOf.{ClassOf}
 use Rattle.meaning.specs.declared.ClassOf.the-variants.{Known, Unknown as UnknownClass}
@@ -36,7 +36,7 @@ use Rattle.meaning.specs.Run.{ascii, file, run, nineLines}
 
 -- every definition that is computed with
 everything : ℕ
-unfolding roomsOf roomsInRange bytesNeeded settingsOf settingsInRange lookupOf entityInRange asdOrGrnInRange lookupInRange numberOf numberInRange dialledInRange filterOf filterInRange fitsNumber rank compareFilters firstLargest weight chosenPlace chosen valueOf actionsOf mostOf caInRange contentInRange nothingWithoutCA oneFormat formatStands fpfxFirst oneXAction precedence isBacked formattingBacked groupsHold fpfxMeetsPrefix casFit fit stretchOf valueFrom conditionedFrom atStart responded inprtg rnSet cdpnnp asdlkup grnlkup cdial carryOut eightPlaces valueToSend referrers fresh withSlot withRules contentPasses codePasses rulesFit codesPass sound refused unserved served outgoingClass formatted afterServices answerBy answerOf view answerByView conditionedBy stretchBy listing bodyLength openingLines addSetLines replaceSetLines removeSetLines addRuleLines changeRuleLines removeRuleLines refusal after decimal digitText okLine noLine numberLine refsLine listedLine endLine lacksProgramRoom operationOf recordText recordPlan fileText
+unfolding roomsOf roomsInRange bytesNeeded settingsOf settingsInRange lookupOf entityInRange asdOrGrnInRange lookupInRange numberOf numberInRange dialledInRange filterOf filterInRange fitsNumber rank compareFilters firstLargest weight chosenPlace chosen valueOf actionsOf mostOf caInRange contentInRange nothingWithoutCA oneFormat formatStands fpfxFirst oneXAction precedence isBacked formattingBacked groupsHold fpfxMeetsPrefix casFit fit stretchOf valueFrom conditionedFrom atStart responded inprtg rnSet cdpnnp asdlkup grnlkup cdial carryOut eightPlaces valueToSend referrers fresh withSlot withRules contentPasses codePasses rulesFit codesPass sound refused unserved served outgoingClass formatted afterServices answerBy answerOf view answerByView conditionedBy stretchBy listing bodyLength openingLines addSetLines replaceSetLines removeSetLines addRuleLines changeRuleLines removeRuleLines refusal after decimal digitText okLine noLine numberLine refsLine listedLine endLine lacksProgramRoom operationOf recordText recordPlan fileText fileEnd
 everything = 0
 
 -- THE RUN
@@ -45,6 +45,19 @@ everything = 0
 pub run-given-whole : fileText run ≡ nineLines
 unfolding everything run nineLines
 run-given-whole = refl
+
+-- and comes to its end, behind its 337 bytes; a byte that is no kind, or a record that is cut, ends it there
+abbrev endFields : End → List ℕ
+endFields e = e .refusal ∷ e .place ∷ []
+
+pub ends-of-run : (endFields (fileEnd run) ≡ 0 ∷ 337 ∷ []) × (endFields (fileEnd (run ++ (200 ∷ 9 ∷ []))) ≡ 2 ∷ 337 ∷ []) × (endFields (fileEnd (run ++ (7 ∷ 1 ∷ []))) ≡ 1 ∷ 337 ∷ [])
+unfolding everything run
+ends-of-run = (refl, refl, refl)
+
+-- "KIND before CUT": an unknown kind as the last byte; and the empty file
+pub ends-at-once : (endFields (fileEnd (9 ∷ 9 ∷ 10 ∷ [])) ≡ 2 ∷ 2 ∷ []) × (endFields (fileEnd (3 ∷ 0 ∷ [])) ≡ 1 ∷ 0 ∷ []) × (endFields (fileEnd []) ≡ 0 ∷ 0 ∷ [])
+unfolding everything
+ends-at-once = (refl, refl, refl)
 
 -- RECORDS: a byte of kind, and its body
 

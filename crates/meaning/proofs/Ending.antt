@@ -1,13 +1,14 @@
 -- What ends the reading of a file: its end, behind all its bytes, or one of two refusals.
 use Prim.Native.Nat.{ℕ, zero, suc, _+_, _≤_}
-use mathlib.Core.Path.{_≡_, refl}
+use mathlib.Core.Path.{_≡_, refl, subst}
 use mathlib.Core.Logic.{_⊎_, inl, inr}
 use mathlib.Core.Bool.{Bool, true, false}
 use mathlib.Core.List.{List, [], _∷_}
-use mathlib.Core.Option.{Option, none, some}
+use mathlib.Core.Option.{Option, none}
 use native.Mathlib.Nat.{not-suc-le-zero}
 use native.Mathlib.Omega.{arith}
 use lib.ListN.{length, take, drop, length-drop}
+use lib.Seq.{drop-drop}
 use lib.Dec.{ltb}
 use borrow.Author.Tests.{ltb-false}
 use Rattle.meaning.specs.Basics.{if_then_else_}
@@ -16,15 +17,26 @@ use Rattle.meaning.specs.Plan.{Plan}
 use Rattle.meaning.specs.Calls.{bodyLength}
 use Rattle.meaning.specs.Records.{recordPlan, End, endHere, endBehind, endFrom, fileEnd}
 
--- of so many bytes: all are taken, or a refusal ended reading
-abbrev Ended : ℕ → End → Type 0
-Ended n e = ((e .refusal ≡ 0) × (e .place ≡ n)) ⊎ ((e .refusal ≡ KIND) ⊎ (e .refusal ≡ CUT))
+-- a byte that is no kind, and a record that is cut
+abbrev pub AtKind : List ℕ → Type 0
+AtKind [] = ⊥
+AtKind (k ∷ bytes) = ltb 9 k ≡ true
 
-behind : (n size left : ℕ) (e : End) → n + left ≡ size → Ended left e → Ended size (endBehind n e)
-behind n size left e h (inl (r, p)) = inl (r, omega arith)
-behind n size left e h (inr r) = inr r
+abbrev pub AtCut : List ℕ → Type 0
+AtCut [] = ⊥
+AtCut (k ∷ bytes) = (ltb 9 k ≡ false) × (ltb (length bytes) (bodyLength k) ≡ true)
 
-ended-from : (fuel : ℕ) (s : Option Plan) (bytes : List ℕ) → length bytes ≤ fuel → Ended (length bytes) (endFrom fuel s bytes)
+-- all bytes are taken, or what stands at the place ended reading
+abbrev Ended : List ℕ → End → Type 0
+Ended bytes e =
+    ((e .refusal ≡ 0) × (e .place ≡ length bytes)) ⊎ (((e .refusal ≡ KIND) × AtKind (drop (e .place) bytes)) ⊎ ((e .refusal ≡ CUT) × AtCut (drop (e .place) bytes)))
+
+behind : (n : ℕ) (bytes : List ℕ) (e : End) → n ≤ length bytes → Ended (drop n bytes) e → Ended bytes (endBehind n e)
+behind n bytes e h (inl (r, p)) = inl (r, omega (arith, p, length-drop n bytes, h))
+behind n bytes e h (inr (inl (r, p))) = inr (inl (r, subst AtKind (drop-drop (e .place) n bytes) p))
+behind n bytes e h (inr (inr (r, p))) = inr (inr (r, subst AtCut (drop-drop (e .place) n bytes) p))
+
+ended-from : (fuel : ℕ) (s : Option Plan) (bytes : List ℕ) → length bytes ≤ fuel → Ended bytes (endFrom fuel s bytes)
 ended-from zero s [] h = inl (refl, refl)
 ended-from zero s (k ∷ bytes) h = absurd (not-suc-le-zero h)
 ended-from (suc fuel) s [] h = inl (refl, refl)
@@ -32,17 +44,18 @@ ended-from (suc fuel) s (k ∷ bytes) h =
     let plan : Option Plan = recordPlan s k (take (bodyLength k) bytes) in
     let rest : List ℕ = drop (bodyLength k) bytes in
     let shorter : length rest ≤ length bytes = rw (length-drop (bodyLength k) bytes) (omega arith) in
-    go (endFrom fuel plan rest) (ended-from fuel plan rest (omega (arith, h, shorter))) (ltb 9 k) (ltb (length bytes) (bodyLength k)) refl
+    go (endFrom fuel plan rest) (ended-from fuel plan rest (omega (arith, h, shorter))) (ltb 9 k) (ltb (length bytes) (bodyLength k)) refl refl
   where
-    go : (e : End) → Ended (length (drop (bodyLength k) bytes)) e → (a b : Bool) → ltb (length bytes) (bodyLength k) ≡ b
-        → Ended (suc (length bytes)) (if a then endHere KIND s else if b then endHere CUT s else endBehind (1 + bodyLength k) e)
-    go e r true b t = inr (inl refl)
-    go e r false true t = inr (inr refl)
-    go e r false false t =
+    go : (e : End) → Ended (drop (bodyLength k) bytes) e → (a b : Bool) → ltb 9 k ≡ a → ltb (length bytes) (bodyLength k) ≡ b
+        → Ended (k ∷ bytes) (if a then endHere KIND s else if b then endHere CUT s else endBehind (1 + bodyLength k) e)
+    go e r true b u t = inr (inl (refl, u))
+    go e r false true u t = inr (inr (refl, (u, t)))
+    go e r false false u t =
         let fits : bodyLength k ≤ length bytes = ltb-false (length bytes) (bodyLength k) t in
-        behind (1 + bodyLength k) (suc (length bytes)) (length (drop (bodyLength k) bytes)) e (rw (length-drop (bodyLength k) bytes) (omega arith)) r
+        let same : drop (bodyLength k) bytes ≡ drop (1 + bodyLength k) (k ∷ bytes) = drop-drop (bodyLength k) 1 (k ∷ bytes) in
+        behind (1 + bodyLength k) (k ∷ bytes) e (omega arith) (subst (λ (l : List ℕ). Ended l e) same r)
 
-ended : (file : List ℕ) → Ended (length file) (fileEnd file)
+ended : (file : List ℕ) → Ended file (fileEnd file)
 unfolding fileEnd
 ended file = ended-from (length file) none file (omega arith)
 
@@ -50,15 +63,32 @@ ended file = ended-from (length file) none file (omega arith)
 pub end-refusals : (file : List ℕ) → (fileEnd file .refusal ≡ 0) ⊎ ((fileEnd file .refusal ≡ KIND) ⊎ (fileEnd file .refusal ≡ CUT))
 end-refusals file = go (ended file)
   where
-    go : Ended (length file) (fileEnd file) → (fileEnd file .refusal ≡ 0) ⊎ ((fileEnd file .refusal ≡ KIND) ⊎ (fileEnd file .refusal ≡ CUT))
+    go : Ended file (fileEnd file) → (fileEnd file .refusal ≡ 0) ⊎ ((fileEnd file .refusal ≡ KIND) ⊎ (fileEnd file .refusal ≡ CUT))
     go (inl (r, p)) = inl r
-    go (inr r) = inr r
+    go (inr (inl (r, p))) = inr (inl r)
+    go (inr (inr (r, p))) = inr (inr r)
 
--- where no refusal ended reading, all of the file was taken
+-- where no refusal ended reading, all of the file was taken; else what ended it stands at the place
 pub whole-file : (file : List ℕ) → fileEnd file .refusal ≡ 0 → fileEnd file .place ≡ length file
-whole-file file accepted = go (ended file)
+whole-file file e = go (ended file)
   where
-    go : Ended (length file) (fileEnd file) → fileEnd file .place ≡ length file
+    go : Ended file (fileEnd file) → fileEnd file .place ≡ length file
     go (inl (r, p)) = p
-    go (inr (inl r)) = absurd (omega arith)
-    go (inr (inr r)) = absurd (omega arith)
+    go (inr (inl (r, p))) = absurd (omega arith)
+    go (inr (inr (r, p))) = absurd (omega arith)
+
+pub at-kind : (file : List ℕ) → fileEnd file .refusal ≡ KIND → AtKind (drop (fileEnd file .place) file)
+at-kind file e = go (ended file)
+  where
+    go : Ended file (fileEnd file) → AtKind (drop (fileEnd file .place) file)
+    go (inl (r, p)) = absurd (omega arith)
+    go (inr (inl (r, p))) = p
+    go (inr (inr (r, p))) = absurd (omega arith)
+
+pub at-cut : (file : List ℕ) → fileEnd file .refusal ≡ CUT → AtCut (drop (fileEnd file .place) file)
+at-cut file e = go (ended file)
+  where
+    go : Ended file (fileEnd file) → AtCut (drop (fileEnd file .place) file)
+    go (inl (r, p)) = absurd (omega arith)
+    go (inr (inl (r, p))) = absurd (omega arith)
+    go (inr (inr (r, p))) = p

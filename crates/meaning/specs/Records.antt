@@ -7,8 +7,7 @@ use lib.ListN.{length, take, drop, getD}
 use lib.Dec.{leb, ltb, eqb}
 use Rattle.meaning.specs.Basics.{if_then_else_, isZero, word}
 use Rattle.meaning.specs.Refusals.{CUT, KIND, PLAN}
-use Rattle.meaning.specs.Settings.{Rooms, roomsOf}
-use Rattle.meaning.specs.Filters.{Filter}
+use Rattle.meaning.specs.Settings.{roomsOf}
 use Rattle.meaning.specs.Plan.{Plan}
 use Rattle.meaning.specs.Answer.{Answer, answer}
 use Rattle.meaning.specs.Reads.{Count, referrerCount, Listed, listing}
@@ -127,8 +126,8 @@ textFrom (suc fuel) s (k ∷ bytes) =
 unfoldable pub fileText : List ℕ → List ℕ
 fileText bytes = textFrom (length bytes) none bytes
 
--- what ended reading: the refusal, KIND or CUT, or 0 where the file has come to its end; the place of that record's kind byte, or the file's end; and the plan that
--- is left
+-- what ended reading: the refusal, KIND or CUT, or 0 where the file has come to its end; the place of that record's kind byte, counted from 0, or the file's length;
+-- and the plan that is left
 pub record End : Type 0 where
   pub refusal : ℕ
   pub place : ℕ

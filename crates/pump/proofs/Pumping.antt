@@ -11,6 +11,8 @@ use borrow.Author.Tests.{ltb-true, ltb-false}
 use lib.Seq.{take-all, take-at, drop-at, take-add, drop-drop, drop-append-le, length-take-le}
 use borrow.Rule.Slice.PartMut.{midOf, putMid, postOf, post-is}
 use Rattle.meaning.specs.Basics.{writtenOver}
+use Rattle.blocks.proofs.PlaceLaws.{rest-is}
+use Rattle.blocks.proofs.OverLaws.{length-over}
 use Rattle.plan.specs.State.{stateOf}
 use Rattle.text.specs.Writes.{LONGEST}
 use Rattle.run.specs.Runs.{InRun}
@@ -22,14 +24,11 @@ use Rattle.record.specs.declared.Line.{Line}
 use Rattle.record.specs.declared.Last.{Last}
 use Rattle.record.specs.declared.Stepped.{Stepped}
 use Rattle.record.specs.declared.Stepped.the-variants.{Wrote, Wants, Full, Ends}
-use Rattle.record.proofs.Steps.{wants-keeps, full-keeps, ends-keeps, next-in-run, ended-no-wants, whole-no-wants, not-whole-few, room-no-full, taken-inside}
+use Rattle.record.proofs.Steps.{wants-keeps, full-keeps, ends-keeps, next-in-run, taken-inside}
 use Rattle.pump.proofs.StepFacts.{writes-some, step-size}
 use Rattle.pump.specs.Pumps.{pumpedAs, PumpPromise}
 
 -- THE LENT PARTS
-
-input-left : (input : List ℕ) (at : ℕ) → take (length input - at) (drop at input) ≡ drop at input
-input-left input at = take-all (length input - at) (drop at input) (rw (length-drop at input) (omega arith))
 
 -- the output with the part from `end` on given back
 given-back : (out lent : List ℕ) (end : ℕ) → end ≤ length out → putMid end (length out - end) out lent ≡ take end out ++ lent
@@ -40,7 +39,7 @@ given-back out lent end h =
 -- what was written, and the bytes behind it
 module _ (text part lent : List ℕ) (is : lent ≡ writtenOver text part) (fits : length text ≤ length part) where
   lent-long : length lent ≡ length part
-  lent-long = ap length is ∙ rw (length-append text (drop (length text) part), length-drop (length text) part) (omega arith)
+  lent-long = ap length is ∙ length-over text part fits
 
   lent-behind : drop (length text) lent ≡ drop (length text) part
   lent-behind = ap (drop (length text)) is ∙ drop-at text (drop (length text) part) (length text) refl
@@ -58,15 +57,11 @@ module _ (out lent : List ℕ) (end : ℕ) (h : end ≤ length out) where
   behind-is : (w : ℕ) → drop (end + w) (take end out ++ lent) ≡ drop w lent
   behind-is w = sym (drop-drop w end (take end out ++ lent)) ∙ ap (drop w) (drop-at (take end out) lent end front-long)
 
-never-true : (b : Bool) → (b ≡ true → ⊥) → b ≡ false
-never-true true f = absurd (f refl)
-never-true false f = refl
-
 -- an end behind no bytes, and behind the bytes of two steps
-none-before : (e : RunEnd) → runEndBehind 0 e ≡ e
+pub none-before : (e : RunEnd) → runEndBehind 0 e ≡ e
 none-before e = rw (zero-add (e .place))
 
-both-before : (a b : ℕ) (e : RunEnd) → runEndBehind (a + b) e ≡ runEndBehind a (runEndBehind b e)
+pub both-before : (a b : ℕ) (e : RunEnd) → runEndBehind (a + b) e ≡ runEndBehind a (runEndBehind b e)
 both-before a b e = rw (add-assoc a b (e .place))
 
 -- THE LOOP
@@ -109,7 +104,7 @@ module _ {m : List ℕ} {run : Run} {ended : Bool} {input out now : List ℕ} {s
   module _ {after lent : List ℕ} {r : Stepped}
       (p : StepPromise now (so .lines) ended (take (length input - at) (drop at input)) (midOf end (length left - end) left) after lent r) where
     step : StepPromise now (so .lines) ended (drop at input) (drop end left) after lent r
-    step = rw (← input-left input at, ← input-left left end) p
+    step = rw (← rest-is at input, ← rest-is end left) p
 
     abbrev said : List ℕ
     said = textOf (turn (stateOf now) (so .lines) ended (drop at input) (length (drop end left)))
@@ -183,7 +178,6 @@ module _ {m : List ℕ} {run : Run} {ended : Bool} {input out now : List ℕ} {s
   going-wants {after} {lent} q =
       let p = step q in
       let kept : after ≡ now = wants-keeps p in
-      let few : length (drop at input) < 74 = not-whole-few (drop at input) (never-true (isWhole (drop at input)) (λ w. whole-no-wants w p)) in
       rw (given-back left lent end here, kept)
       (record {
         goes-on = λ o rest texts e l r. rw (same-front refl q) (g .extends rest texts e l r);
@@ -198,8 +192,6 @@ module _ {m : List ℕ} {run : Run} {ended : Bool} {input out now : List ℕ} {s
         in-run = g .in-run;
         stops-wanting = λ o f. ap (turn (stateOf now) (so .lines) ended (drop at input)) room-left ∙ sym (p .turn-is);
         stops-full = λ f. absurd (false≢true f);
-        wants-more = λ o f. (rw (length-drop at input) at few, never-true ended (λ e. ended-no-wants e p));
-        no-room = λ f. absurd (false≢true f);
       })
 
   pub going-full : {after lent : List ℕ}
@@ -222,18 +214,7 @@ module _ {m : List ℕ} {run : Run} {ended : Bool} {input out now : List ℕ} {s
         in-run = g .in-run;
         stops-wanting = λ o f. absurd (true≢false f);
         stops-full = λ f. ap (turn (stateOf now) (so .lines) ended (drop at input)) room-left ∙ sym (p .turn-is);
-        wants-more = λ o f. absurd (true≢false f);
-        no-room = λ f. small p;
       })
-    where
-      small : StepPromise now (so .lines) ended (drop at input) (drop end left) after lent Full → length out - end < LONGEST
-      small p = go (ltb (length out - end) LONGEST) refl
-        where
-          go : (b : Bool) → ltb (length out - end) LONGEST ≡ b → length out - end < LONGEST
-          go true t = ltb-true (length out - end) LONGEST t
-          go false t =
-              let h : LONGEST ≤ length out - end = ltb-false (length out - end) LONGEST t in
-              absurd (room-no-full (rw (length-drop end left, g .long) h) p)
 
   -- reading has ended, with the last line
   pub going-ends : {after lent : List ℕ} {l : Last}
@@ -256,8 +237,6 @@ module _ {m : List ℕ} {run : Run} {ended : Bool} {input out now : List ℕ} {s
         in-run = rw kept (g .in-run);
         stops-wanting = λ o. absurd (true≢false o);
         stops-full = λ f. absurd (false≢true f);
-        wants-more = λ o. absurd (true≢false o);
-        no-room = λ f. absurd (false≢true f);
       })
 
   -- what the next turn of the loop begins with

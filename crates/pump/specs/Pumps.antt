@@ -1,10 +1,9 @@
 -- Steps over the input at hand, one behind the other, until none can be taken: no whole record is left, the output has no room for a line, or reading has ended.
-use Prim.Native.Nat.{ℕ, _+_, _-_, _≤_, _<_}
+use Prim.Native.Nat.{ℕ, _-_, _≤_}
 use mathlib.Core.Path.{_≡_}
 use mathlib.Core.Bool.{Bool, true, false}
 use mathlib.Core.List.{List, [], _++_}
 use lib.ListN.{length, take, drop}
-use Rattle.text.specs.Writes.{LONGEST}
 use Rattle.run.specs.Runs.{InRun}
 use Rattle.plan.specs.State.{stateOf}
 use Rattle.record.specs.Turns.{wants, full, turn}
@@ -37,6 +36,3 @@ pub record PumpPromise (m : List ℕ) (run : Run) (ended : Bool) (input output a
   pub stops-wanting : r .over ≡ false → r .full ≡ false
       → turn (stateOf after) (r .run .lines) ended (drop (r .taken) input) (length output - r .written) ≡ wants
   pub stops-full : r .full ≡ true → turn (stateOf after) (r .run .lines) ended (drop (r .taken) input) (length output - r .written) ≡ full
-  -- so that less than the longest record is left, or less than the longest line has room
-  pub wants-more : r .over ≡ false → r .full ≡ false → (length input - r .taken < 74) × (ended ≡ false)
-  pub no-room : r .full ≡ true → length output - r .written < LONGEST

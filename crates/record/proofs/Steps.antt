@@ -8,7 +8,7 @@ use mathlib.Core.Option.{Option, none, some}
 use native.Mathlib.Omega.{arith}
 use lib.ListN.{length, take, drop, getElem?, length-append, length-drop, length-map, List·getD-eq-default}
 use lib.Dec.{ltb, leb, eqb, leb→le}
-use borrow.Author.Tests.{ltb-false, le-ltb, leb-true, leb-false, le-leb}
+use borrow.Author.Tests.{ltb-false, le-ltb, leb-true, leb-false}
 use Rattle.meaning.specs.Basics.{if_then_else_}
 use Rattle.meaning.specs.Refusals.{KIND, CUT}
 use Rattle.meaning.specs.Settings.{bytesNeeded}
@@ -136,10 +136,6 @@ body-most k = go (leb k 9) refl
     go false e = rw (List·getD-eq-default {A = ℕ} (40 ∷ 47 ∷ 47 ∷ 2 ∷ 21 ∷ 21 ∷ 19 ∷ 73 ∷ 2 ∷ 0 ∷ []) 0 {n = k} (leb-false k 9 e)) (omega arith)
 
 -- there is a byte for a kind, and 73 for the longest body
-pub enough-whole : (part : List ℕ) → 74 ≤ length part → isWhole part ≡ true
-enough-whole [] h = absurd (omega (arith, h))
-enough-whole (k ∷ bytes) h = le-leb (bodyLength k) (length bytes) (omega (arith, body-most k))
-
 pub not-whole-few : (part : List ℕ) → isWhole part ≡ false → length part < 74
 not-whole-few [] e = omega arith
 not-whole-few (k ∷ bytes) e = omega (arith, leb-false (bodyLength k) (length bytes) e, body-most k)
@@ -218,9 +214,6 @@ module _ {m input output after written : List ℕ} {lines : ℕ} {ended : Bool} 
 
   pub whole-no-wants : isWhole input ≡ true → StepPromise m lines ended input output after written Wants → ⊥
   whole-no-wants h p = whole-turn-goes (stateOf m) lines ended input (length output) h (sym (p .turn-is))
-
-  pub enough-no-wants : 74 ≤ length input → StepPromise m lines ended input output after written Wants → ⊥
-  enough-no-wants h p = whole-no-wants (enough-whole input h) p
 
   pub room-no-full : LONGEST ≤ length output → StepPromise m lines ended input output after written Full → ⊥
   room-no-full h p = room-turn-goes (stateOf m) lines ended input (length output) h (sym (p .turn-is))

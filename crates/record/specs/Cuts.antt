@@ -1,13 +1,13 @@
 -- However a file is cut into parts: runs of steps over it, and the text that they write.
 use Prim.Native.Nat.{ℕ}
 use mathlib.Core.Path.{_≡_}
-use mathlib.Core.Bool.{Bool, true, false}
-use mathlib.Core.List.{List, [], _∷_, _++_}
-use mathlib.Core.Option.{Option, none, some}
+use mathlib.Core.Bool.{Bool, true}
+use mathlib.Core.List.{List, [], _++_}
+use mathlib.Core.Option.{Option, none}
 use lib.ListN.{drop}
 use Rattle.meaning.specs.Plan.{Plan}
 use Rattle.meaning.specs.Records.{fileText, End, endHere, endBehind, fileEnd}
-use Rattle.record.specs.Turns.{Turn, wrote, wants, full, ends, turn}
+use Rattle.record.specs.Turns.{wrote, wants, full, ends, turn}
 
 -- the part at hand and what comes behind it are what is left of the file; the input has ended only where nothing comes behind
 pub record Cut (left part rest : List ℕ) (ended : Bool) : Type 0 where

@@ -1,11 +1,10 @@
 -- The records of an input that comes in parts: what one step does, over the plan in force, how many lines of a listing are written already, whether
 -- the input has ended, the part of it that is at hand, and how many bytes there are for the output.
-use Prim.Native.Nat.{ℕ, zero, suc, _+_}
-use mathlib.Core.Path.{_≡_}
-use mathlib.Core.Bool.{Bool, true, false}
-use mathlib.Core.List.{List, [], _∷_, _++_}
+use Prim.Native.Nat.{ℕ, _+_}
+use mathlib.Core.Bool.{Bool, false}
+use mathlib.Core.List.{List, [], _∷_}
 use mathlib.Core.Option.{Option, none, some}
-use lib.ListN.{length, take, drop, getElem?}
+use lib.ListN.{length, take, getElem?}
 use lib.Dec.{ltb, leb, eqb}
 use Rattle.meaning.specs.Basics.{if_then_else_}
 use Rattle.meaning.specs.Refusals.{CUT, KIND, PLAN}

@@ -21,7 +21,7 @@ use Rattle.stream.specs.declared.Turned.{Turned}
 use Rattle.stream.specs.declared.Turned.the-variants.{Goes, Done, NotWritten}
 
 -- the front of a list, as it is lent
-front-is : (e : ℕ) (xs : List ℕ) → take (e - 0) xs ≡ take e xs
+pub front-is : (e : ℕ) (xs : List ℕ) → take (e - 0) xs ≡ take e xs
 front-is e xs = let same : e - 0 ≡ e = omega arith in ap (λ (n : ℕ). take n xs) same
 
 -- WHAT IS LEFT MOVES TO THE FRONT
@@ -70,6 +70,7 @@ module _ (s : Source) (left : ℕ) (input : List ℕ) where
         record {
           more = omega (arith, few, length-take-le left input (p .inside), p .enough);
           not-ended = e;
+          not-failed = p .not-failed;
           counted = p .counted;
         }
 

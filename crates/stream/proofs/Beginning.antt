@@ -1,13 +1,12 @@
 -- A memory that was cleared holds no plan.
 use Prim.Native.Nat.{ℕ, _+_, _-_, _≤_}
-use mathlib.Core.Path.{_≡_, refl, ap, sym, _∙_}
+use mathlib.Core.Path.{_≡_, refl, ap, _∙_}
 use mathlib.Core.Bool.{false}
-use mathlib.Core.List.{List}
 use native.Mathlib.Omega.{arith}
-use lib.ListN.{length, take, drop}
+use lib.ListN.{take}
 use Rattle.meaning.specs.Basics.{part}
 use Rattle.meaning.specs.Settings.{roomsInRange}
-use Rattle.meaning.specs.Plan.{Plan, soundRules, sound}
+use Rattle.meaning.specs.Plan.{soundRules, sound}
 use Rattle.meaning.proofs.Tests.{all-false}
 use Rattle.buffer.specs.Zeros.{zeros}
 use Rattle.buffer.proofs.ZeroLaws.{length-zeros, take-zeros, drop-zeros}

@@ -2,7 +2,7 @@
 use Prim.Native.Nat.{ℕ, _+_, _-_, _*_, _≤_, _<_}
 use mathlib.Core.Path.{_≡_, refl, ap, sym, subst, _∙_}
 use mathlib.Core.Logic.{_⊎_, inl, inr}
-use mathlib.Core.Bool.{Bool, true, false}
+use mathlib.Core.Bool.{true, false}
 use mathlib.Core.List.{List, [], _++_}
 use native.Mathlib.Omega.{arith}
 use lib.IntN.{ℤ}
@@ -10,23 +10,21 @@ use lib.ListN.{length}
 use mir.Syntax.{w32}
 use mir.Val.{SFits, toZ, ofZ}
 use mir.ValLaws.{toZ-ofZ}
-use Rattle.meaning.specs.Basics.{if_then_else_}
 use Rattle.buffer.specs.Zeros.{zeros}
+use Rattle.text.specs.Writes.{LONGEST}
 use Rattle.run.specs.Runs.{RUN-BYTES, InRun}
 use Rattle.record.specs.declared.Run.{Run}
 use Rattle.record.specs.Promises.{start}
-use Rattle.pump.specs.declared.Pumped.{Pumped}
 use Rattle.descriptors.specs.Moves.{newSource, newSink, sent}
 use Rattle.descriptors.specs.declared.Source.{Source}
 use Rattle.descriptors.specs.declared.Sink.{Sink}
-use Rattle.descriptors.specs.declared.AtHand.{AtHand}
-use Rattle.stream.specs.Turnings.{restBy, endingBy, turnedBy, Turnable, Turning, TurnPromise}
+use Rattle.stream.specs.Turnings.{restBy, AdvancePromise, Turnable, UnreadTurn, Turning, TurnPromise}
 use Rattle.stream.specs.Copies.{BUFFER, TURNS, first, givenIn, writtenIn, Chain, begun, turned, LastTurn, CopyPromise}
 use Rattle.stream.specs.declared.Rest.{Rest}
 use Rattle.stream.specs.declared.Turned.{Turned}
 use Rattle.stream.specs.declared.Turned.the-variants.{Goes, Done, NotRead, NotWritten, Spent}
 use Rattle.stream.proofs.Beginning.{cleared}
-use Rattle.stream.proofs.TurnLaws.{went, at-hand, next-ready}
+use Rattle.stream.proofs.TurnLaws.{as-turned, at-hand, next-ready}
 
 -- the turns that are left do not bring a count over this
 abbrev COUNTED : ℕ
@@ -45,7 +43,7 @@ pub record Copying (from to : ℤ) (plan input output now in-hand out-hand : Lis
   pub count : turns + k ≡ TURNS
   pub given : List ℕ
   pub written : List ℕ
-  pub chain : Chain from to (length plan) turns given written now rest in-hand
+  pub chain : Chain from to (length plan) input output turns given written now rest in-hand out-hand
 
 pub first-is : {from to : ℤ} {run : Run} {source : Source} {sink : Sink} → run ≡ start → source ≡ newSource from → sink ≡ newSink to
     → record { run = run; source = source; sink = sink; at = 0; end = 0 } ≡ first from to
@@ -53,7 +51,7 @@ first-is a b c = rw (a, b, c) refl
 
 -- the memory is cleared, and its size stays
 pub copying-start : (plan : List ℕ) {from to : ℤ} {input output now : List ℕ} {rest : Rest} → rest ≡ first from to → now ≡ zeros (length plan) → length now ≡ length plan → RUN-BYTES ≤ length plan
-    → 74 ≤ length input → 41 ≤ length output → length input ≤ BUFFER → length output ≤ BUFFER → Copying from to now input output now input output rest TURNS
+    → 74 ≤ length input → LONGEST ≤ length output → length input ≤ BUFFER → length output ≤ BUFFER → Copying from to now input output now input output rest TURNS
 copying-start plan {from} {to} {input} {output} {now} {rest} is zero size enough i o few-i few-o =
     let same : now ≡ zeros (length now) = zero ∙ ap zeros (sym size) in
     let ran : InRun now false = subst (λ (l : List ℕ). InRun l false) (sym zero) (cleared (length plan) enough) in
@@ -62,10 +60,11 @@ copying-start plan {from} {to} {input} {output} {now} {rest} is zero size enough
       ready =
           record {
             in-run = ran;
-            left = record { placed = omega arith; inside = omega arith; enough = i; counted = omega arith };
-            given = omega arith;
+            left = record { placed = omega arith; inside = omega arith; enough = i; not-failed = refl; counted = omega arith };
+            left-given = omega arith;
             room = o;
-            told = omega arith;
+            not-failed = refl;
+            counted = omega arith;
           };
       plan-size = refl;
       input-size = refl;
@@ -78,67 +77,60 @@ copying-start plan {from} {to} {input} {output} {now} {rest} is zero size enough
       count = refl;
       given = [];
       written = [];
-      chain = subst (λ (l : List ℕ). Chain from to (length now) 0 [] [] l (first from to) input) (sym same) begun;
+      chain = subst (λ (l : List ℕ). Chain from to (length now) input output 0 [] [] l (first from to) input output) (sym same) begun;
     })
 
 -- HOW THE LAST TURN ENDED
 
--- behind steps no read failed, and no turn is spent
-abbrev IsStepped : Turned → Type 0
-IsStepped (Goes r) = Unit {0}
-IsStepped (Done e) = Unit {0}
-IsStepped (NotRead r) = ⊥
-IsStepped (NotWritten r) = Unit {0}
-IsStepped (Spent r) = ⊥
-
-stepped : (h : AtHand) (p : Pumped) (sink : Sink) → IsStepped (turnedBy h p sink)
-stepped h p sink = go (sink .failed) (p .over)
-  where
-    go : (f o : Bool) → IsStepped (if f then NotWritten (restBy h p sink) else if o then Done (endingBy h p sink) else Goes (restBy h p sink))
-    go true o = tt
-    go false true = tt
-    go false false = tt
-
 module _ {m : List ℕ} {rest : Rest} {input output after input-left output-left : List ℕ} where
-  after-steps : {t : Turned} → Turning m rest input output after input-left output-left t → IsStepped t
-  after-steps w = subst IsStepped (sym (w .is)) (stepped (w .h) (w .p) (sent (rest .sink) (w .p .written) (w .done)))
+  -- by whether a read failed
+  by-read : {t : Turned} → TurnPromise m rest input output after input-left output-left t
+      → UnreadTurn m rest input output after input-left output-left t ⊎ Turning m rest input output after input-left output-left t
+  by-read {t} p = go (p .so)
+    where
+      go : AdvancePromise m rest (p .hand) input-left output after output-left t
+          → UnreadTurn m rest input output after input-left output-left t ⊎ Turning m rest input output after input-left output-left t
+      go (inl u) = inl (record { hand = p .hand; gathers = p .gathers; so = u })
+      go (inr w) = inr (record { hand = p .hand; gathers = p .gathers; so = w })
 
-  last-so : (n : ℕ) (t : Turned) → ((next : Rest) → t ≡ Goes next → ⊥) → TurnPromise m rest input output after input-left output-left t
+  last-so : (n : ℕ) (t : Turned) → ((next : Rest) → t ≡ Goes next → ⊥)
+      → UnreadTurn m rest input output after input-left output-left t ⊎ Turning m rest input output after input-left output-left t
       → LastTurn m rest input output after input-left output-left n t
   last-so n (Goes r) none p = absurd (none r refl)
-  last-so n (Done e) none (inl u) = absurd (let f = u .is in let z : _≡_ {A = ℕ} 0 1 = cc in omega arith)
+  last-so n (Done e) none (inl u) = absurd (let f = u .so .is in let z : _≡_ {A = ℕ} 0 1 = cc in omega arith)
   last-so n (Done e) none (inr w) = w
   last-so n (NotRead r) none (inl u) = u
-  last-so n (NotRead r) none (inr w) = absurd (after-steps w)
-  last-so n (NotWritten r) none (inl u) = absurd (let f = u .is in let z : _≡_ {A = ℕ} 0 1 = cc in omega arith)
+  last-so n (NotRead r) none (inr w) = absurd (as-turned w)
+  last-so n (NotWritten r) none (inl u) = absurd (let f = u .so .is in let z : _≡_ {A = ℕ} 0 1 = cc in omega arith)
   last-so n (NotWritten r) none (inr w) = w
-  last-so n (Spent r) none (inl u) = absurd (let f = u .is in let z : _≡_ {A = ℕ} 0 1 = cc in omega arith)
-  last-so n (Spent r) none (inr w) = absurd (after-steps w)
+  last-so n (Spent r) none (inl u) = absurd (let f = u .so .is in let z : _≡_ {A = ℕ} 0 1 = cc in omega arith)
+  last-so n (Spent r) none (inr w) = absurd (as-turned w)
 
 module _ {from to : ℤ} {plan input output now in-hand out-hand : List ℕ} {rest : Rest} {k : ℕ} (i : Copying from to plan input output now in-hand out-hand rest k) where
   module _ {after in-left out-left : List ℕ} {t : Turned} (p : TurnPromise now rest in-hand out-hand after in-left out-left t) where
     -- a turn that goes on is one in which steps were taken
     steps-of : {next : Rest} → t ≡ Goes next → Turning now rest in-hand out-hand after in-left out-left (Goes next)
-    steps-of {next} e = go p
+    steps-of {next} e = go (by-read p)
       where
-        go : TurnPromise now rest in-hand out-hand after in-left out-left t → Turning now rest in-hand out-hand after in-left out-left (Goes next)
-        go (inl u) = absurd (let f = u .is in let z : _≡_ {A = ℕ} 0 1 = cc in omega arith)
+        go : UnreadTurn now rest in-hand out-hand after in-left out-left t ⊎ Turning now rest in-hand out-hand after in-left out-left t
+            → Turning now rest in-hand out-hand after in-left out-left (Goes next)
+        go (inl u) = absurd (let f = u .so .is in let z : _≡_ {A = ℕ} 0 1 = cc in omega arith)
         go (inr w) = subst (Turning now rest in-hand out-hand after in-left out-left) e w
 
     pub copying-more : {next : Rest} → t ≡ Goes next → 0 < k → length after ≡ length now → length in-left ≡ length in-hand → length out-left ≡ length out-hand
         → Copying from to plan input output after in-left out-left next (k - 1)
     copying-more {next} e more a b c =
         let w : Turning now rest in-hand out-hand after in-left out-left (Goes next) = steps-of e in
-        let is : next ≡ restBy (w .h) (w .p) (sent (rest .sink) (w .p .written) true) = went w .1 in
-        let f = at-hand w in
-        let given-is : next .source .given ≡ w .h .source .given = ap (λ (r : Rest). r .source .given) is in
-        let written-is : next .sink .written ≡ rest .sink .written + w .p .written = ap (λ (r : Rest). r .sink .written) is in
-        let given-most : w .h .source .given + (k - 1) * BUFFER ≤ COUNTED = omega (arith, f .counted, f .inside, i .given-few, i .input-few, i .input-size, more) in
-        let written-most : rest .sink .written + w .p .written + (k - 1) * BUFFER ≤ COUNTED = omega (arith, w .steps .room, i .written-few, i .output-few, i .output-size, more) in
+        let is : next ≡ restBy (w .hand) (w .so .pumped) (sent (rest .sink) (w .so .pumped .written) true) = as-turned w .1 in
+        let f = at-hand (i .ready) w in
+        let given-is : next .source .given ≡ w .hand .source .given = ap (λ (r : Rest). r .source .given) is in
+        let written-is : next .sink .written ≡ rest .sink .written + w .so .pumped .written = ap (λ (r : Rest). r .sink .written) is in
+        let given-most : w .hand .source .given + (k - 1) * BUFFER ≤ COUNTED = omega (arith, f .counted, f .inside, i .given-few, i .input-few, i .input-size, more) in
+        let written-most : rest .sink .written + w .so .pumped .written + (k - 1) * BUFFER ≤ COUNTED = omega (arith, w .so .steps .room, i .written-few, i .output-few, i .output-size, more) in
         record {
           ready =
               subst (λ (r : Rest). Turnable after r (length in-left) (length out-left)) (sym is)
-              (next-ready w (went w .0) (omega (arith, given-most, i .input-few, i .input-size)) (omega (arith, written-most, i .output-few, i .output-size)));
+              (next-ready (i .ready) w (as-turned w .0) (omega (arith, given-most, i .input-few, i .input-size)) (omega (arith, written-most, i .output-few, i .output-size)));
           plan-size = a ∙ i .plan-size;
           input-size = b ∙ i .input-size;
           output-size = c ∙ i .output-size;
@@ -150,11 +142,11 @@ module _ {from to : ℤ} {plan input output now in-hand out-hand : List ℕ} {re
           count = omega (arith, i .count, more);
           given = i .given ++ givenIn w;
           written = i .written ++ writtenIn w;
-          chain = turned (i .chain) w;
+          chain = turned (i .chain) (i .ready) w;
         }
 
     -- any other is the last
-    pub copying-last : ((next : Rest) → t ≡ Goes next → ⊥) → CopyPromise from to (length plan) after in-left out-left t
+    pub copying-last : ((next : Rest) → t ≡ Goes next → ⊥) → CopyPromise from to (length plan) input output after in-left out-left t
     copying-last none =
         record {
           turns = i .turns;
@@ -165,10 +157,11 @@ module _ {from to : ℤ} {plan input output now in-hand out-hand : List ℕ} {re
           input = in-hand;
           output = out-hand;
           chain = i .chain;
-          ends = last-so (i .turns) t none p;
+          ready = i .ready;
+          ends = last-so (i .turns) t none (by-read p);
         }
 
-  pub copying-spent : k ≡ 0 → CopyPromise from to (length plan) now in-hand out-hand (Spent rest)
+  pub copying-spent : k ≡ 0 → CopyPromise from to (length plan) input output now in-hand out-hand (Spent rest)
   copying-spent e =
       record {
         turns = i .turns;
@@ -179,7 +172,8 @@ module _ {from to : ℤ} {plan input output now in-hand out-hand : List ℕ} {re
         input = in-hand;
         output = out-hand;
         chain = i .chain;
-        ends = (omega (arith, i .count, e), refl, refl, refl);
+        ready = i .ready;
+        ends = (omega (arith, i .count, e), refl, refl, refl, refl);
       }
 
 -- FOR THE FUNCTION
@@ -192,6 +186,6 @@ never (inr (inr (inl e))) = omega arith
 never (inr (inr (inr e))) = omega arith
 
 -- in the numbers that the caller lent
-pub as-lent : {from to : ℤ} {size n : ℕ} {after in-left out-left : List ℕ} {t : Turned} → SFits w32 from → SFits w32 to → n ≡ size
-    → CopyPromise (toZ w32 (ofZ w32 from)) (toZ w32 (ofZ w32 to)) n after in-left out-left t → CopyPromise from to size after in-left out-left t
+pub as-lent : {from to : ℤ} {size n : ℕ} {input output after in-left out-left : List ℕ} {t : Turned} → SFits w32 from → SFits w32 to → n ≡ size
+    → CopyPromise (toZ w32 (ofZ w32 from)) (toZ w32 (ofZ w32 to)) n input output after in-left out-left t → CopyPromise from to size input output after in-left out-left t
 as-lent {from} {to} f g e p = rw (toZ-ofZ w32 from f, toZ-ofZ w32 to g, e) at p

@@ -11,9 +11,8 @@ use Rattle.meaning.specs.Basics.{if_then_else_, writtenOver}
 use Rattle.record.specs.Turns.{isWhole}
 use Rattle.descriptors.specs.Moves.{FillPromise}
 use Rattle.descriptors.proofs.MoveLaws.{Got, got}
-use Rattle.descriptors.specs.declared.Source.{Source}
 use Rattle.descriptors.specs.declared.AtHand.{AtHand}
-use Rattle.stream.specs.Turnings.{leftOf, leftIn, mustRead, SuppliesBy, Supplies}
+use Rattle.stream.specs.Turnings.{leftOf, leftIn, mustRead, SuppliesBy, GatherPromise}
 use Rattle.stream.specs.declared.Rest.{Rest}
 
 pub record Hand (rest : Rest) (input input-left : List ℕ) (h : AtHand) : Type 0 where
@@ -27,7 +26,7 @@ pub record Hand (rest : Rest) (input input-left : List ℕ) (h : AtHand) : Type 
   -- where nothing more is at hand, the input has ended, or a whole record was left
   pub idle-why : h .source .failed ≡ false → h .end ≡ leftOf rest → (h .source .ended ≡ true) ⊎ (isWhole (leftIn rest input) ≡ true)
 
-module _ (rest : Rest) (input input-left : List ℕ) (h : AtHand) (placed : rest .at ≤ rest .end) (inside : rest .end ≤ length input) (s : Supplies rest input input-left h) where
+module _ (rest : Rest) (input input-left : List ℕ) (h : AtHand) (placed : rest .at ≤ rest .end) (inside : rest .end ≤ length input) (s : GatherPromise rest input input-left h) where
   abbrev left : ℕ
   left = leftOf rest
 
@@ -48,8 +47,8 @@ module _ (rest : Rest) (input input-left : List ℕ) (h : AtHand) (placed : rest
   room = omega (arith, inside)
 
   -- no read was made
-  unread : mustRead (rest .source) (leftIn rest input) ≡ false → h ≡ record { end = left; source = rest .source } → input-left ≡ moved → Hand rest input input-left h
-  unread why e same =
+  not-asked : mustRead (rest .source) (leftIn rest input) ≡ false → h ≡ record { end = left; source = rest .source } → input-left ≡ moved → Hand rest input input-left h
+  not-asked why e same =
       subst (Hand rest input input-left) (sym e)
       (record {
         long = ap length same ∙ size;
@@ -89,5 +88,5 @@ module _ (rest : Rest) (input input-left : List ℕ) (h : AtHand) (placed : rest
   hand-facts = go (mustRead (rest .source) (leftIn rest input)) refl (rw front at s)
     where
       go : (b : Bool) → mustRead (rest .source) (leftIn rest input) ≡ b → SuppliesBy b (rest .source) left moved input-left h → Hand rest input input-left h
-      go false why q = unread why (q .0) (q .1)
+      go false why q = not-asked why (q .0) (q .1)
       go true why q = filled why q

@@ -22,12 +22,13 @@ use Rattle.pump.specs.declared.Pumped.{Pumped}
 use Rattle.descriptors.specs.Moves.{MOST, sent}
 use Rattle.descriptors.specs.declared.Sink.{Sink}
 use Rattle.descriptors.specs.declared.AtHand.{AtHand}
-use Rattle.stream.specs.Turnings.{leftOf, leftIn, Supplies, restBy, endingBy, turnedBy, Turnable, Turning}
+use Rattle.stream.specs.Turnings.{leftOf, leftIn, GatherPromise, restBy, endingBy, turnedBy, Advanceable, Turnable, Turning}
 use Rattle.stream.specs.Copies.{givenIn, writtenIn}
 use Rattle.stream.specs.declared.Rest.{Rest}
 use Rattle.stream.specs.declared.Ending.{Ending}
 use Rattle.stream.specs.declared.Turned.{Turned}
-use Rattle.stream.specs.declared.Turned.the-variants.{Goes, Done, NotWritten}
+use Rattle.stream.specs.declared.Turned.the-variants.{Goes, Done, NotRead, NotWritten, Spent}
+use Rattle.stream.proofs.Answers.{front-is}
 use Rattle.stream.proofs.HandFacts.{Hand, hand-facts}
 
 -- the place in the file where what is left begins
@@ -36,53 +37,44 @@ placeOf rest = rest .source .given - leftOf rest
 
 -- HOW IT ENDED, by the answer
 
-module _ (h : AtHand) (p : Pumped) (sink : Sink) (n : ℕ) where
-  goes-by : (done : Bool) {next : Rest} → Goes next ≡ turnedBy h p (sent sink n done) → (p .over ≡ false) × (next ≡ restBy h p (sent sink n true))
-  goes-by true {next} e = go (p .over) refl e
-    where
-      go : (o : Bool) → p .over ≡ o → Goes next ≡ (if o then Done (endingBy h p (sent sink n true)) else Goes (restBy h p (sent sink n true)))
-          → (p .over ≡ false) × (next ≡ restBy h p (sent sink n true))
-      go true i e = absurd (let z : _≡_ {A = ℕ} 0 1 = cc in omega arith)
-      go false i e = (i, cc)
-  goes-by false e = absurd (let z : _≡_ {A = ℕ} 0 1 = cc in omega arith)
+module _ (hand : AtHand) (pumped : Pumped) (sink : Sink) (n : ℕ) where
+  abbrev TurnedAs : Turned → Type 0
+  TurnedAs (Goes next) = (pumped .over ≡ false) × (next ≡ restBy hand pumped (sent sink n true))
+  TurnedAs (Done e) = (pumped .over ≡ true) × (e ≡ endingBy hand pumped (sent sink n true))
+  TurnedAs (NotRead r) = ⊥
+  TurnedAs (NotWritten r) = r ≡ restBy hand pumped (sent sink n false)
+  TurnedAs (Spent r) = ⊥
 
-  done-by : (done : Bool) {e : Ending} → Done e ≡ turnedBy h p (sent sink n done) → (p .over ≡ true) × (e ≡ endingBy h p (sent sink n true))
-  done-by true {e} i = go (p .over) refl i
+  turned-as : (done : Bool) → TurnedAs (turnedBy hand pumped (sent sink n done))
+  turned-as true = go (pumped .over) refl
     where
-      go : (o : Bool) → p .over ≡ o → Done e ≡ (if o then Done (endingBy h p (sent sink n true)) else Goes (restBy h p (sent sink n true)))
-          → (p .over ≡ true) × (e ≡ endingBy h p (sent sink n true))
-      go true o i = (o, cc)
-      go false o i = absurd (let z : _≡_ {A = ℕ} 0 1 = cc in omega arith)
-  done-by false i = absurd (let z : _≡_ {A = ℕ} 0 1 = cc in omega arith)
-
-  unwritten-by : (done : Bool) {r : Rest} → NotWritten r ≡ turnedBy h p (sent sink n done) → r .source ≡ h .source
-  unwritten-by true {r} e = go (p .over) e
-    where
-      go : (o : Bool) → NotWritten r ≡ (if o then Done (endingBy h p (sent sink n true)) else Goes (restBy h p (sent sink n true))) → r .source ≡ h .source
-      go true e = absurd (let z : _≡_ {A = ℕ} 0 1 = cc in omega arith)
-      go false e = absurd (let z : _≡_ {A = ℕ} 0 1 = cc in omega arith)
-  unwritten-by false {r} e = let same : r ≡ restBy h p (sent sink n false) = cc in ap (λ (x : Rest). x .source) same
+      go : (o : Bool) → pumped .over ≡ o → TurnedAs (if o then Done (endingBy hand pumped (sent sink n true)) else Goes (restBy hand pumped (sent sink n true)))
+      go true e = (e, refl)
+      go false e = (e, refl)
+  turned-as false = refl
 
 -- WHAT WAS AT HAND
 
-pub hand-of : {m : List ℕ} {rest : Rest} {room : ℕ} (input input-left : List ℕ) (h : AtHand) → Turnable m rest (length input) room → Supplies rest input input-left h → Hand rest input input-left h
+pub hand-of : {m : List ℕ} {rest : Rest} {room : ℕ} (input input-left : List ℕ) (h : AtHand) → Turnable m rest (length input) room → GatherPromise rest input input-left h
+    → Hand rest input input-left h
 hand-of {rest = rest} input input-left h r s = hand-facts rest input input-left h (r .left .placed) (r .left .inside) s
 
-module _ {m : List ℕ} {rest : Rest} {input output after input-left output-left : List ℕ} {t : Turned} (w : Turning m rest input output after input-left output-left t) where
+module _ {m : List ℕ} {rest : Rest} {input output after input-left output-left : List ℕ} {t : Turned} (ready : Turnable m rest (length input) (length output))
+    (w : Turning m rest input output after input-left output-left t) where
   abbrev h : AtHand
-  h = w .h
+  h = w .hand
 
   abbrev p : Pumped
-  p = w .p
+  p = w .so .pumped
 
-  pub at-hand : Hand rest input input-left (w .h)
-  at-hand = hand-of input input-left (w .h) (w .ready) (w .supplies)
+  pub at-hand : Hand rest input input-left (w .hand)
+  at-hand = hand-of input input-left (w .hand) ready (w .gathers)
 
   hand-long : length (take (h .end) input-left) ≡ h .end
   hand-long = length-take-le (h .end) input-left (omega (arith, at-hand .inside, at-hand .long))
 
   taken-inside : p .taken ≤ h .end
-  taken-inside = omega (arith, w .steps .inside, hand-long)
+  taken-inside = omega (arith, w .so .steps .inside, hand-long)
 
   -- what was left, and what was given behind it
   joined : leftIn rest input ++ givenIn w ≡ take (h .end) input-left
@@ -97,7 +89,7 @@ module _ {m : List ℕ} {rest : Rest} {input output after input-left output-left
   given-long = length-drop (leftOf rest) (take (h .end) input-left) ∙ ap (λ (n : ℕ). n - leftOf rest) hand-long
 
   pub written-long : length (writtenIn w) ≡ p .written
-  written-long = length-take-le (p .written) output-left (omega (arith, w .steps .room, w .steps .same-size))
+  written-long = length-take-le (p .written) output-left (omega (arith, w .so .steps .room, w .so .steps .same-size))
 
   -- behind the end nothing is given, and it stays the end
   pub none-behind : (more : List ℕ) → (h .source .ended ≡ true → more ≡ []) → rest .source .ended ≡ true → givenIn w ++ more ≡ []
@@ -120,25 +112,27 @@ module _ {m : List ℕ} {rest : Rest} {input output after input-left output-left
     goes-on more texts e last runs =
         let behind : leftIn next input-left ++ more ≡ drop (p .taken) (take (h .end) input-left ++ more) =
         ap (λ (l : List ℕ). l ++ more) (sym (drop-take (p .taken) (h .end) input-left taken-inside))
-        ∙ sym (drop-append-le (p .taken) (take (h .end) input-left) more (w .steps .inside)) in
+        ∙ sym (drop-append-le (p .taken) (take (h .end) input-left) more (w .so .steps .inside)) in
         subst (λ (l : List ℕ). Runs m (rest .run) l (writtenIn w ++ texts) (runEndBehind (p .taken) e)) (whole more)
-        (w .steps .goes-on over more texts e last (subst (λ (l : List ℕ). Runs after (p .run) l texts e) behind runs))
+        (w .so .steps .goes-on over more texts e last (subst (λ (l : List ℕ). Runs after (p .run) l texts e) behind runs))
 
     -- what the next turn asks for, as long as the counts have room
     pub next-ready : h .source .given + length input ≤ MOST → rest .sink .written + p .written + length output ≤ MOST → Turnable after next (length input-left) (length output-left)
     next-ready c d =
         record {
-          in-run = w .steps .in-run;
+          in-run = w .so .steps .in-run;
           left =
               record {
                 placed = taken-inside;
                 inside = omega (arith, at-hand .inside, at-hand .long);
-                enough = omega (arith, w .ready .left .enough, at-hand .long);
+                enough = omega (arith, ready .left .enough, at-hand .long);
+                not-failed = w .so .read;
                 counted = omega (arith, c, at-hand .long);
               };
-          given = omega (arith, at-hand .counted, w .ready .given, at-hand .more, taken-inside);
-          room = omega (arith, w .ready .room, w .steps .same-size);
-          told = omega (arith, d, w .steps .same-size);
+          left-given = omega (arith, at-hand .counted, ready .left-given, at-hand .more, taken-inside);
+          room = omega (arith, ready .room, w .so .steps .same-size);
+          not-failed = refl;
+          counted = omega (arith, d, w .so .steps .same-size);
         }
 
     -- a byte was given, or one was written
@@ -149,21 +143,21 @@ module _ {m : List ℕ} {rest : Rest} {input output after input-left output-left
         stuck none idle = kind (p .full) refl
           where
             same : (after ≡ m) × (p .taken ≡ 0) × (p .run ≡ rest .run)
-            same = w .steps .idle over idle
+            same = w .so .steps .idle over idle
 
             room : LONGEST ≤ length output - p .written
-            room = omega (arith, idle, w .ready .room)
+            room = omega (arith, idle, ready .room)
 
             -- all that was left is at hand, and nothing more
             part-is : drop (p .taken) (take (h .end) input-left) ≡ leftIn rest input
             part-is = ap₂ (λ (a e : ℕ). drop a (take e input-left)) (same .1) none ∙ at-hand .kept
 
             kind : (b : Bool) → p .full ≡ b → ⊥
-            kind true f = room-turn-goes (stateOf after) (p .run .lines) (h .source .ended) (drop (p .taken) (take (h .end) input-left)) (length output - p .written) room (w .steps .stops-full f)
-            kind false f = why (at-hand .idle-why (w .read) none)
+            kind true f = room-turn-goes (stateOf after) (p .run .lines) (h .source .ended) (drop (p .taken) (take (h .end) input-left)) (length output - p .written) room (w .so .steps .stops-full f)
+            kind false f = why (at-hand .idle-why (w .so .read) none)
               where
                 wanting : turn (stateOf after) (p .run .lines) (h .source .ended) (drop (p .taken) (take (h .end) input-left)) (length output - p .written) ≡ wants
-                wanting = w .steps .stops-wanting over f
+                wanting = w .so .steps .stops-wanting over f
 
                 why : (h .source .ended ≡ true) ⊎ (isWhole (leftIn rest input) ≡ true) → ⊥
                 why (inl e) =
@@ -183,12 +177,12 @@ module _ {m : List ℕ} {rest : Rest} {input output after input-left output-left
   pub ends : p .over ≡ true → (more : List ℕ) → (h .source .ended ≡ true → more ≡ [])
       → Runs m (rest .run) (leftIn rest input ++ (givenIn w ++ more)) (writtenIn w) (runEndBehind (p .taken) (runEndHere (p .refusal) after))
   ends over more last =
-      subst (λ (l : List ℕ). Runs m (rest .run) l (writtenIn w) (runEndBehind (p .taken) (runEndHere (p .refusal) after))) (whole more) (w .steps .ends over more last)
+      subst (λ (l : List ℕ). Runs m (rest .run) l (writtenIn w) (runEndBehind (p .taken) (runEndHere (p .refusal) after))) (whole more) (w .so .steps .ends over more last)
 
   -- THE COUNTS
 
   pub place-on : placeOf rest + p .taken ≡ h .source .given - (h .end - p .taken)
-  place-on = omega (arith, at-hand .counted, w .ready .given, at-hand .more, taken-inside)
+  place-on = omega (arith, at-hand .counted, ready .left-given, at-hand .more, taken-inside)
 
   pub given-on : h .source .given ≡ rest .source .given + length (givenIn w)
   given-on = at-hand .counted ∙ ap (λ (n : ℕ). rest .source .given + n) (sym given-long)
@@ -196,29 +190,32 @@ module _ {m : List ℕ} {rest : Rest} {input output after input-left output-left
 -- BY THE ANSWER
 
 module _ {m : List ℕ} {rest : Rest} {input output after input-left output-left : List ℕ} where
-  pub went : {next : Rest} (w : Turning m rest input output after input-left output-left (Goes next))
-      → (w .p .over ≡ false) × (next ≡ restBy (w .h) (w .p) (sent (rest .sink) (w .p .written) true))
-  went w = goes-by (w .h) (w .p) (rest .sink) (w .p .written) (w .done) (w .is)
+  pub as-turned : {t : Turned} (w : Turning m rest input output after input-left output-left t) → TurnedAs (w .hand) (w .so .pumped) (rest .sink) (w .so .pumped .written) t
+  as-turned w =
+      subst (TurnedAs (w .hand) (w .so .pumped) (rest .sink) (w .so .pumped .written)) (sym (w .so .is))
+      (turned-as (w .hand) (w .so .pumped) (rest .sink) (w .so .pumped .written) (w .so .done))
 
-  pub ended-so : {e : Ending} (w : Turning m rest input output after input-left output-left (Done e))
-      → (w .p .over ≡ true) × (e ≡ endingBy (w .h) (w .p) (sent (rest .sink) (w .p .written) true))
-  ended-so w = done-by (w .h) (w .p) (rest .sink) (w .p .written) (w .done) (w .is)
-
-  pub unwritten-so : {r : Rest} (w : Turning m rest input output after input-left output-left (NotWritten r)) → r .source ≡ w .h .source
-  unwritten-so w = unwritten-by (w .h) (w .p) (rest .sink) (w .p .written) (w .done) (w .is)
-
--- FOR THE FUNCTION
+-- FOR THE FUNCTIONS
 
 -- steps over the input that is lent are steps over what is at hand
 pub steps-at-hand : {m output after output-left : List ℕ} {run : Run} {ended said : Bool} {p : Pumped} (e : ℕ) (input : List ℕ) → said ≡ ended
     → PumpPromise m run said (take (e - 0) input) output after output-left p → PumpPromise m run ended (take e input) output after output-left p
-steps-at-hand e input i q = let same : e - 0 ≡ e = omega arith in rw (same, i) at q
+steps-at-hand e input i q = rw (front-is e input, i) at q
 
-pub may-conclude : {m : List ℕ} {rest : Rest} {output after output-left : List ℕ} {run : Run} {ended : Bool} {p : Pumped} (input input-left : List ℕ) (h : AtHand) → Turnable m rest (length input) (length output)
-    → Supplies rest input input-left h → PumpPromise m run ended (take (h .end - 0) input-left) output after output-left p
-    → (p .taken ≤ h .end) × (h .end - p .taken ≤ h .source .given)
-may-conclude {p = p} input input-left h r s q =
+pub may-conclude : {m : List ℕ} {rest : Rest} {output after output-left : List ℕ} {run : Run} {ended : Bool} {p : Pumped} (input : List ℕ) (h : AtHand) (room : ℕ)
+    → Advanceable m rest h (length input) room → PumpPromise m run ended (take (h .end - 0) input) output after output-left p → (p .taken ≤ h .end) × (h .end - p .taken ≤ h .source .given)
+may-conclude {p = p} input h room r q =
+    let long : length (take (h .end - 0) input) ≡ h .end - 0 = length-take-le (h .end - 0) input (omega (arith, r .inside)) in
+    (omega (arith, q .inside, long), omega (arith, r .hand-given))
+
+pub may-advance : {m : List ℕ} {rest : Rest} {room : ℕ} (input input-left : List ℕ) (h : AtHand) → Turnable m rest (length input) room → GatherPromise rest input input-left h
+    → Advanceable m rest h (length input-left) room
+may-advance input input-left h r s =
     let f = hand-of input input-left h r s in
-    let long : length (take (h .end - 0) input-left) ≡ h .end - 0 = length-take-le (h .end - 0) input-left (omega (arith, f .inside, f .long)) in
-    let taken : p .taken ≤ h .end = omega (arith, q .inside, long) in
-    (taken, omega (arith, f .counted, r .given, f .more, taken))
+    record {
+      in-run = r .in-run;
+      inside = omega (arith, f .inside, f .long);
+      hand-given = omega (arith, f .counted, r .left-given, f .more);
+      not-failed = r .not-failed;
+      counted = r .counted;
+    }

@@ -1,13 +1,16 @@
 // Files of house records: what a source gives is taken in turns, and the lines are handed to a sink. This crate calls no function of the system: what is read and
 // written passes through `descriptors` alone.
 ghost use mathlib.Core.Path.{_≡_};
+ghost use mathlib.Core.Bool.{false};
 ghost use Prim.Native.Nat.{_+_, _-_, _≤_};
 ghost use lib.ListN.{length, take, drop};
 ghost use Rattle.meaning.specs.Basics.{writtenOver};
 ghost use Rattle.buffer.specs.Zeros.{zeros};
+ghost use Rattle.text.specs.Writes.{LONGEST};
+ghost use Rattle.run.specs.Runs.{RUN-BYTES};
 ghost use Rattle.record.specs.Promises.{start};
-ghost use Rattle.descriptors.specs.Moves.{MOST, SendPromise};
-ghost use Rattle.stream.specs.Turnings.{SupplyPromise, Suppliable, Supplies, Gatherable, unreadOf, turnedBy, Turnable, TurnPromise};
+ghost use Rattle.descriptors.specs.Moves.{MOST, WritePromise};
+ghost use Rattle.stream.specs.Turnings.{SupplyPromise, Suppliable, GatherPromise, Gatherable, unreadOf, turnedBy, AdvancePromise, Advanceable, Turnable, TurnPromise};
 ghost use Rattle.stream.specs.Copies.{BUFFER, CopyPromise};
 use descriptors::AtHand;
 use descriptors::Sink;
@@ -25,8 +28,8 @@ pub struct Rest {
     pub end: usize,
 }
 
-// Reading has ended: the refusal that ended it, or 0 where the file has come to its end; the place in the file of that record's kind byte, or of the file's end; and
-// where the copy stands.
+// Reading has ended: the refusal that ended it, or 0 where the file has come to its end; the place in the file of that record's kind byte, counted from 0, or
+// the file's length; and where the copy stands.
 pub struct Ending {
     pub refusal: u8,
     pub place: u64,
@@ -91,7 +94,7 @@ fn supply(source: Source, left: usize, input: &mut [u8]) -> AtHand
 // What is left moves to the front, and is supplied.
 fn gather(rest: Rest, input: &mut [u8]) -> AtHand
     requires { ⌜ Gatherable rest (length (now input)) ⌝ }
-    ensures { λ r. ⌜ Supplies rest (now (input .entry)) (now (input .exit)) r ⌝ }
+    ensures { λ r. ⌜ GatherPromise rest (now (input .entry)) (now (input .exit)) r ⌝ }
 {
     let left = settle(rest.at, rest.end, input);
     supply(rest.source, left, input)
@@ -111,8 +114,8 @@ fn unread(rest: Rest, h: AtHand) -> Rest
 
 // Hands out what the steps wrote: the front of the output.
 fn hand(sink: Sink, p: Pumped, output: &[u8]) -> Sink
-    requires { ⌜ (p .written ≤ length (now output)) × (sink .written + p .written ≤ MOST) ⌝ }
-    ensures { λ r. ⌜ SendPromise sink (p .written) r ⌝ }
+    requires { ⌜ (p .written ≤ length (now output)) × (sink .failed ≡ false) × (sink .written + p .written ≤ MOST) ⌝ }
+    ensures { λ r. ⌜ WritePromise sink (p .written) r ⌝ }
 {
     let n = p.written;
     descriptors::write(sink, &output[0..n], n, output)
@@ -146,12 +149,11 @@ fn conclude(h: AtHand, p: Pumped, sink: Sink) -> Turned
     })
 }
 
-// A read behind what is left, steps over what is at hand, and a write of what they wrote.
-fn turn(plan: &mut [u8], rest: Rest, input: &mut [u8], output: &mut [u8]) -> Turned
-    requires { ⌜ Turnable (now plan) rest (length (now input)) (length (now output)) ⌝ }
-    ensures { λ r. ⌜ TurnPromise (now (plan .entry)) rest (now (input .entry)) (now (output .entry)) (now (plan .exit)) (now (input .exit)) (now (output .exit)) r ⌝ }
+// Steps over the input at hand, and a write of what they wrote; nothing where the read failed.
+fn advance(plan: &mut [u8], rest: Rest, h: AtHand, input: &[u8], output: &mut [u8]) -> Turned
+    requires { ⌜ Advanceable (now plan) rest h (length (now input)) (length (now output)) ⌝ }
+    ensures { λ r. ⌜ AdvancePromise (now (plan .entry)) rest h (now (input .entry)) (now (output .entry)) (now (plan .exit)) (now (output .exit)) r ⌝ }
 {
-    let h = gather(rest, input);
     let source = h.source;
     if source.failed() {
         return Turned::NotRead(unread(rest, h));
@@ -162,13 +164,22 @@ fn turn(plan: &mut [u8], rest: Rest, input: &mut [u8], output: &mut [u8]) -> Tur
     conclude(h, p, sink)
 }
 
+// A read behind what is left, or none, and what is done with the input at hand.
+fn turn(plan: &mut [u8], rest: Rest, input: &mut [u8], output: &mut [u8]) -> Turned
+    requires { ⌜ Turnable (now plan) rest (length (now input)) (length (now output)) ⌝ }
+    ensures { λ r. ⌜ TurnPromise (now (plan .entry)) rest (now (input .entry)) (now (output .entry)) (now (plan .exit)) (now (input .exit)) (now (output .exit)) r ⌝ }
+{
+    let h = gather(rest, input);
+    advance(plan, rest, h, input, output)
+}
+
 // ALL TURNS
 
 // Writes to one descriptor the lines of the house records that another gives, to its end or until reading has ended.
 pub fn copy(from: i32, to: i32, plan: &mut [u8], input: &mut [u8], output: &mut [u8]) -> Turned
-    requires { ⌜ (15424 ≤ length (now plan)) × (74 ≤ length (now input)) × (41 ≤ length (now output)) ⌝ }
+    requires { ⌜ (RUN-BYTES ≤ length (now plan)) × (74 ≤ length (now input)) × (LONGEST ≤ length (now output)) ⌝ }
     requires { ⌜ (length (now input) ≤ BUFFER) × (length (now output) ≤ BUFFER) ⌝ }
-    ensures { λ r. ⌜ CopyPromise from to (length (now (plan .entry))) (now (plan .exit)) (now (input .exit)) (now (output .exit)) r ⌝ }
+    ensures { λ r. ⌜ CopyPromise from to (length (now (plan .entry))) (now (input .entry)) (now (output .entry)) (now (plan .exit)) (now (input .exit)) (now (output .exit)) r ⌝ }
 {
     let run = begin(plan);
     let mut rest = Rest {

@@ -1,13 +1,11 @@
 -- What was left stays, and the rest goes by the answer.
-use Prim.Native.Nat.{ℕ, _-_}
-use mathlib.Core.Path.{_≡_, ap, _∙_}
-use native.Mathlib.Omega.{arith}
+use Prim.Native.Nat.{_-_}
+use mathlib.Core.Path.{_≡_}
 use lib.ListN.{length}
 use borrow.Author.Needs.{needs}
 use mir.Syntax.{w64}
 use mir.ValLaws.{toZ-ofZ}
 use borrow.Rule.Slice.PartMut.{putMid, take-put, same-len-mid}
-use Rattle.descriptors.specs.Moves.{atHand}
 use Rattle.descriptors.proofs.MoveLaws.{part-long}
 use Rattle.descriptors.proofs.fill.Statement.{statement}
 use Rattle.descriptors.proofs.fill.Tie as tie

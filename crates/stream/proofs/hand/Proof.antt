@@ -1,9 +1,6 @@
 -- The front of the output.
-use Prim.Native.Nat.{ℕ, _-_}
-use mathlib.Core.Path.{_≡_, ap}
-use native.Mathlib.Omega.{arith}
-use lib.ListN.{take}
 use borrow.Author.Needs.{needs}
+use Rattle.stream.proofs.Answers.{front-is}
 use Rattle.stream.proofs.hand.Statement.{statement}
 use Rattle.stream.proofs.hand.Tie as tie
 
@@ -19,8 +16,7 @@ part-write-end c = search needs
 write-requires : tie.Need-write-requires
 write-requires c κs =
     let b = c .before .before in
-    let e : b .args .p .written - 0 ≡ b .args .p .written = omega arith in
-    (ap (λ (n : ℕ). take n (b .args .output .now)) e, b .pre .1)
+    record { front = front-is (b .args .p .written) (b .args .output .now); inside = b .pre .0; not-failed = b .pre .1; counted = b .pre .2 }
 
 returns : tie.Need-returns
 returns c = search needs
