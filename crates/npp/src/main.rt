@@ -8,6 +8,7 @@ use stream::Turned;
 // Names what failed.
 fn report(turned: Turned, name: &[u8]) {
     match turned {
+        // never the answer of a copy
         Turned::Goes(_) => {}
         Turned::Done(_) => {}
         Turned::NotRead(_) => os::fail(name),

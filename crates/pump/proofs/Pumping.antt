@@ -6,17 +6,14 @@ use mathlib.Core.List.{List, [], _++_, append-assoc, append-nil}
 use native.Mathlib.Nat.{zero-add, add-assoc}
 use native.Mathlib.Omega.{arith}
 use lib.ListN.{length, take, drop, length-append, length-drop, drop-of-length-le}
-use lib.Dec.{ltb}
-use borrow.Author.Tests.{ltb-true, ltb-false}
-use lib.Seq.{take-all, take-at, drop-at, take-add, drop-drop, drop-append-le, length-take-le}
+use lib.Seq.{take-at, drop-at, take-add, drop-drop, drop-append-le, length-take-le}
 use borrow.Rule.Slice.PartMut.{midOf, putMid, postOf, post-is}
 use Rattle.meaning.specs.Basics.{writtenOver}
 use Rattle.blocks.proofs.PlaceLaws.{rest-is}
 use Rattle.blocks.proofs.OverLaws.{length-over}
 use Rattle.plan.specs.State.{stateOf}
-use Rattle.text.specs.Writes.{LONGEST}
 use Rattle.run.specs.Runs.{InRun}
-use Rattle.record.specs.Turns.{turn, isWhole}
+use Rattle.record.specs.Turns.{turn}
 use Rattle.record.specs.Cuts.{Cut}
 use Rattle.record.specs.Promises.{writtenBy, textOf, StepPromise, Runs, next, last, RunEnd, runEndHere, runEndBehind}
 use Rattle.record.specs.declared.Run.{Run}

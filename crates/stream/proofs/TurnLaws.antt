@@ -25,7 +25,6 @@ use Rattle.descriptors.specs.declared.AtHand.{AtHand}
 use Rattle.stream.specs.Turnings.{leftOf, leftIn, GatherPromise, restBy, endingBy, turnedBy, Advanceable, Turnable, Turning}
 use Rattle.stream.specs.Copies.{givenIn, writtenIn}
 use Rattle.stream.specs.declared.Rest.{Rest}
-use Rattle.stream.specs.declared.Ending.{Ending}
 use Rattle.stream.specs.declared.Turned.{Turned}
 use Rattle.stream.specs.declared.Turned.the-variants.{Goes, Done, NotRead, NotWritten, Spent}
 use Rattle.stream.proofs.Answers.{front-is}
