@@ -8,7 +8,7 @@ use mathlib.Core.List.{List}
 use lib.Dec.{leb, ltb, eqb}
 use borrow.Author.Tests.{eqb-true, eqb-false, eq-eqb, ne-eqb}
 use Rattle.meaning.specs.Basics.{if_then_else_, any, count}
-use Rattle.meaning.specs.Actions.{CA, isFPFX}
+use Rattle.meaning.specs.Actions.{LAST-COUNTED, FPFX, CA, isFPFX}
 use Rattle.meaning.specs.Groups.{fixedOf, fpfxMeetsPrefix, sumFits}
 use Rattle.meaning.proofs.Tests.{none-counted}
 
@@ -28,7 +28,7 @@ some-prefix prefix xs h = rw (ne-eqb prefix 0 h, or-true)
 
 -- an action takes no more for certain than its count and the prefix allow
 pub fixed-small : (most prefix : ℕ) (a : CA) → prefix ≤ most → a .count ≤ most → fixedOf prefix a ≤ most
-fixed-small most prefix a p h = go (leb (a .code) 10) (eqb (a .code) 14)
+fixed-small most prefix a p h = go (leb (a .code) LAST-COUNTED) (eqb (a .code) FPFX)
   where
     go : (s t : Bool) → (if s then a .count else if t then prefix else 0) ≤ most
     go true t = h

@@ -1,15 +1,17 @@
 // A set's actions as they lie in its content, and the fit of a rule and a set.
+use meaning::ca::FPFX;
+use meaning::ca::LAST_COUNTED;
+use meaning::ca::SNX;
+use meaning::ca::ZNX;
 use ranges::cas_of;
 ghost use mathlib.Core.Path.{_≡_};
 ghost use Prim.Native.Nat.{_≤_};
 ghost use lib.ListN.{length};
+ghost use Rattle.meaning.specs.Sizes.{CONTENT-BYTES};
 ghost use Rattle.meaning.specs.Basics.{any, count, isEmpty, contains};
 ghost use Rattle.meaning.specs.Actions.{isX, valueOf, casOf, codesOf, actionsOf};
 ghost use Rattle.meaning.specs.Groups.{isSet, fixedOf, fixedSum, fpfxMeetsPrefix, sumFits, casFit};
 ghost use Rattle.actions.specs.Reading.{actionOf, ActionAt, CodeAt, hasCode};
-
-// The conditioning code FPFX.
-pub const FPFX: u8 = 14;
 
 // A conditioning action; code 0 stands behind the last.
 pub struct ConditioningAction {
@@ -67,7 +69,7 @@ pub fn value_of(code: u8) -> u8
 pub fn is_x(a: ConditioningAction) -> bool
     ensures { λ r. ⌜ r ≡ isX (actionOf a) ⌝ }
 {
-    11 <= a.code && a.code <= 13
+    SNX <= a.code && a.code <= ZNX
 }
 
 // Some conditioning action sets the value v.
@@ -143,7 +145,7 @@ pub fn count_x(cas: &[u8]) -> usize
 pub fn fixed_of(a: ConditioningAction, prefix: usize) -> usize
     ensures { λ r. ⌜ r ≡ fixedOf prefix (actionOf a) ⌝ }
 {
-    if a.code <= 10 {
+    if a.code <= LAST_COUNTED {
         return a.count as usize;
     }
     if a.code == FPFX { prefix } else { 0 }
@@ -208,7 +210,7 @@ pub fn cas_fit(cas: &[u8], prefix: usize, len: usize) -> bool
 
 // The same, over a set's content.
 pub fn fits_content(prefix: usize, len: usize, content: &[u8]) -> bool
-    requires { ⌜ (length (now content) ≡ 45) × (prefix ≤ 16) ⌝ }
+    requires { ⌜ (length (now content) ≡ CONTENT-BYTES) × (prefix ≤ 16) ⌝ }
     ensures { λ r. ⌜ r ≡ casFit prefix len (actionsOf (now (content .entry)) .cas) ⌝ }
 {
     cas_fit(cas_of(content), prefix, len)

@@ -8,6 +8,7 @@ use native.Mathlib.Omega.{arith}
 use lib.ListN.{length, take, drop}
 use lib.Seq.{take-at}
 use lib.Dec.{T, eqb, eqb→eq}
+use Rattle.meaning.specs.Sizes.{DIGIT-ROOM}
 use Rattle.meaning.specs.Basics.{all, isZero, writtenOver}
 use Rattle.meaning.specs.Rules.{Rule, chosenPlace, ruleAt, chosen}
 use Rattle.meaning.specs.Plan.{Plan}
@@ -15,7 +16,7 @@ use Rattle.meaning.specs.Answer.{Answer, answer}
 use Rattle.meaning.specs.Reads.{Read, conditioned}
 use Rattle.meaning.specs.Calls.{Operation, openPlan, addSet, replaceSet, removeSet, addRule, changeRule, removeRule, Call, lacksBytes, refusal, putIn, refusalsFrom}
 use Rattle.meaning.specs.Answers.{AnswersRead, refusalOfWritten, bytesWritten, placeChosen, answeredAs}
-use Rattle.meaning.specs.Examples.{Query, choice, answered, condition, nothing, shownRule, shownAnswer, shownRead, shownChoice, shown, Row, table, Holds}
+use Rattle.meaning.specs.Examples.{Query, choice, answered, condition, nothing, shownRule, shownAnswer, shownRead, shownChoice, MEMORY, shown, Row, table, Holds}
 use Rattle.meaning.specs.declared.Answered.{Answered}
 use Rattle.meaning.specs.declared.Written.{Written}
 use Rattle.meaning.specs.declared.Chosen.{Chosen}
@@ -46,13 +47,13 @@ placeIn (some p) class ds = chosenPlace class ds (p .rules)
 -- what is asked of a memory, of every result that meets the promise
 abbrev pub Asked : Query → List ℕ → List ℕ → Type 0
 Asked (choice class ds) m result = (c : Chosen) → placeChosen c ≡ placeIn (stateOf m) class ds → ruleChosen (stateOf m) c ≡ result
-Asked (answered b) m result = (out after : List ℕ) (a : Answered) → length out ≡ 35 → AnswerPromise m b out after a → shownAnswered a after ≡ result
-Asked (condition class ds) m result = (out after : List ℕ) (w : Written) → length out ≡ 35 → ConditionedPromise m class ds out after w → shownWritten w after ≡ result
+Asked (answered b) m result = (out after : List ℕ) (a : Answered) → length out ≡ DIGIT-ROOM → AnswerPromise m b out after a → shownAnswered a after ≡ result
+Asked (condition class ds) m result = (out after : List ℕ) (w : Written) → length out ≡ DIGIT-ROOM → ConditionedPromise m class ds out after w → shownWritten w after ≡ result
 Asked nothing m result = [] ≡ result
 
--- a row over any memory of 640 bytes: each call is answered with its number, and what is asked with the row's result
+-- a row over any memory of just the bytes that its rooms need: each call is answered with its number, and what is asked with the row's result
 pub record RunsAs (r : Row) : Type 0 where
-  pub runs : (m end numbers : List ℕ) → length m ≡ 640 → Chain m (r .calls) numbers end → (numbers ≡ r .numbers) × Asked (r .query) end (r .result)
+  pub runs : (m end numbers : List ℕ) → length m ≡ MEMORY → Chain m (r .calls) numbers end → (numbers ≡ r .numbers) × Asked (r .query) end (r .result)
 
 -- ONE RESULT
 
@@ -72,7 +73,7 @@ chosen-shown none class ds c e = refl
 chosen-shown (some p) class ds c e = ap (λ (o : Option ℕ). shownRule (ruleAt (p .rules) o)) e
 
 -- over a memory that holds what was put in
-asked : (q : Query) (cs : List Call) (m result : List ℕ) → stateOf m ≡ putIn (lacksBytes 640) cs → shown q cs ≡ result → Asked q m result
+asked : (q : Query) (cs : List Call) (m result : List ℕ) → stateOf m ≡ putIn (lacksBytes MEMORY) cs → shown q cs ≡ result → Asked q m result
 asked (choice class ds) cs m result s e = λ c p. chosen-shown (stateOf m) class ds c p ∙ (ap (λ (o : Option Plan). shownChoice o class ds) s ∙ e)
 asked (answered b) cs m result s e = λ out after a h p.
     gives-answer (answer (stateOf m) (length out) b) out after a p ∙ (ap₂ (λ (o : Option Plan) (n : ℕ). shownAnswer (answer o n b)) s h ∙ e)
@@ -106,21 +107,21 @@ opens = tt
 head-zero : (x n : ℕ) (xs ns : List ℕ) → x ∷ xs ≡ n ∷ ns → T (isZero n) → x ≡ 0
 head-zero x n xs ns e t = let q : x ≡ n = cc in q ∙ eqb→eq n 0 t
 
--- calls that begin with an accepted opening, over any memory of 640 bytes
+-- calls that begin with an accepted opening, over any memory of just the bytes that its rooms need
 opened-runs : (b : List ℕ) (cs : List Call) (numbers : List ℕ) (q : Query) (result : List ℕ)
-    → refusal (lacksBytes 640) none (record { operation = openPlan; body = b }) ≡ 0
-    → refusalsFrom (lacksBytes 640) none (record { operation = openPlan; body = b } ∷ cs) ≡ numbers → shown q (record { operation = openPlan; body = b } ∷ cs) ≡ result
-    → (m end ns : List ℕ) → length m ≡ 640 → Chain m (record { operation = openPlan; body = b } ∷ cs) ns end → (ns ≡ numbers) × Asked q end result
+    → refusal (lacksBytes MEMORY) none (record { operation = openPlan; body = b }) ≡ 0
+    → refusalsFrom (lacksBytes MEMORY) none (record { operation = openPlan; body = b } ∷ cs) ≡ numbers → shown q (record { operation = openPlan; body = b } ∷ cs) ≡ result
+    → (m end ns : List ℕ) → length m ≡ MEMORY → Chain m (record { operation = openPlan; body = b } ∷ cs) ns end → (ns ≡ numbers) × Asked q end result
 opened-runs b cs numbers q result z e f m end ns h t =
     let calls : List Call = record { operation = openPlan; body = b } ∷ cs in
     let accepted : refusal (lacksBytes (length m)) none (record { operation = openPlan; body = b }) ≡ 0 = rw h z in
     let o = from-opening t accepted in
-    let state : stateOf end ≡ putIn (lacksBytes 640) calls = o .state ∙ ap (λ (n : ℕ). putIn (lacksBytes n) calls) h in
+    let state : stateOf end ≡ putIn (lacksBytes MEMORY) calls = o .state ∙ ap (λ (n : ℕ). putIn (lacksBytes n) calls) h in
     (o .numbers ∙ (ap (λ (n : ℕ). refusalsFrom (lacksBytes n) none calls) h ∙ e), asked q calls end result state f)
 
 by-operation : (o : Operation) (b : List ℕ) (cs : List Call) (n : ℕ) (numbers : List ℕ) (q : Query) (result : List ℕ) → T (isOpening o && isZero n)
-    → refusalsFrom (lacksBytes 640) none (record { operation = o; body = b } ∷ cs) ≡ n ∷ numbers → shown q (record { operation = o; body = b } ∷ cs) ≡ result
-    → (m end ns : List ℕ) → length m ≡ 640 → Chain m (record { operation = o; body = b } ∷ cs) ns end → (ns ≡ n ∷ numbers) × Asked q end result
+    → refusalsFrom (lacksBytes MEMORY) none (record { operation = o; body = b } ∷ cs) ≡ n ∷ numbers → shown q (record { operation = o; body = b } ∷ cs) ≡ result
+    → (m end ns : List ℕ) → length m ≡ MEMORY → Chain m (record { operation = o; body = b } ∷ cs) ns end → (ns ≡ n ∷ numbers) × Asked q end result
 unfolding isOpening
 by-operation openPlan b cs n numbers q result t e f = opened-runs b cs (n ∷ numbers) q result (head-zero _ n _ numbers e t) e f
 by-operation addSet b cs n numbers q result t e f = absurd t
@@ -131,8 +132,8 @@ by-operation changeRule b cs n numbers q result t e f = absurd t
 by-operation removeRule b cs n numbers q result t e f = absurd t
 
 by-calls : (cs : List Call) (numbers : List ℕ) (q : Query) (result : List ℕ) → T (opensWith cs numbers)
-    → refusalsFrom (lacksBytes 640) none cs ≡ numbers → shown q cs ≡ result
-    → (m end ns : List ℕ) → length m ≡ 640 → Chain m cs ns end → (ns ≡ numbers) × Asked q end result
+    → refusalsFrom (lacksBytes MEMORY) none cs ≡ numbers → shown q cs ≡ result
+    → (m end ns : List ℕ) → length m ≡ MEMORY → Chain m cs ns end → (ns ≡ numbers) × Asked q end result
 unfolding opensWith
 by-calls [] numbers q result t e f = absurd t
 by-calls (c ∷ cs) [] q result t e f = absurd t

@@ -6,18 +6,19 @@ use mathlib.Core.List.{List}
 use native.Mathlib.Omega.{arith}
 use lib.ListN.{length, take, drop, getD, length-drop}
 use lib.Seq.{length-take-le}
+use Rattle.meaning.specs.Sizes.{PREFIX-AT, LENGTH-AT, FILTER-BYTES}
 use Rattle.meaning.specs.Filters.{Filter, filterOf}
 use Rattle.meaning.specs.Actions.{ActionSet, actionsOf}
 use Rattle.meaning.specs.Groups.{casFit, fit}
 use Rattle.filter.specs.Slots.{FilterBytes}
 use Rattle.filter.proofs.FilterLaws.{prefix-is}
 
-pub prefix-length : (s : List ℕ) → FilterBytes s → length (filterOf s .prefix) ≡ getD s 1 0
+pub prefix-length : (s : List ℕ) → FilterBytes s → length (filterOf s .prefix) ≡ getD s PREFIX-AT 0
 prefix-length s f =
-    let whole : 19 ≤ length s = f .whole in let few : getD s 1 0 ≤ 16 = f .prefix in
-    ap length (prefix-is s f) ∙ length-take-le (getD s 1 0) (drop 2 s) (rw (length-drop 2 s) (omega arith))
+    let whole : FILTER-BYTES ≤ length s = f .whole in let few : getD s PREFIX-AT 0 ≤ 16 = f .prefix in
+    ap length (prefix-is s f) ∙ length-take-le (getD s PREFIX-AT 0) (drop 2 s) (rw (length-drop 2 s) (omega arith))
 
-pub fit-bytes : (s c : List ℕ) (p l : ℕ) (r : Bool) → FilterBytes s → p ≡ getD s 1 0 → l ≡ getD s 18 0 → r ≡ casFit p l (actionsOf c .cas)
+pub fit-bytes : (s c : List ℕ) (p l : ℕ) (r : Bool) → FilterBytes s → p ≡ getD s PREFIX-AT 0 → l ≡ getD s LENGTH-AT 0 → r ≡ casFit p l (actionsOf c .cas)
     → r ≡ fit (filterOf s) (actionsOf c)
 unfolding fit filterOf
 fit-bytes s c p l r f a b e = e ∙ ap₂ (λ x y. casFit x y (actionsOf c .cas)) (a ∙ sym (prefix-length s f)) b

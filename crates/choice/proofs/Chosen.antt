@@ -8,6 +8,7 @@ use native.Mathlib.Omega.{arith}
 use lib.ListN.{length, take, drop, getD, length-drop}
 use lib.Seq.{length-take-le}
 use lib.Dec.{T}
+use Rattle.meaning.specs.Sizes.{PREFIX-AT, PREFIX-DIGITS-AT, FILTER-BYTES, RULE-WIDTH}
 use Rattle.meaning.specs.Basics.{isSome}
 use Rattle.meaning.specs.Filters.{Filter, filterOf, fitsNumber}
 use Rattle.meaning.specs.Rules.{Rule, filterIn, chosenPlace, chosen, ruleAt, inOrder}
@@ -18,7 +19,7 @@ use Rattle.meaning.proofs.Largest.{place-mem}
 use Rattle.meaning.proofs.Choice.{Choice, noRule as noneFits, theRule, choice}
 use Rattle.meaning.proofs.Soundness.{names-held}
 use Rattle.buffer.proofs.ListLaws.{element-at}
-use Rattle.filter.specs.Slots.{RULE-WIDTH, RuleArea, ruleOf, rulesOf}
+use Rattle.filter.specs.Slots.{RuleArea, ruleOf, rulesOf}
 use Rattle.filter.proofs.FilterLaws.{prefix-is}
 use Rattle.filter.proofs.RuleLaws.{filter-in, slot-bytes, chosen-within}
 use Rattle.plan.specs.Layout.{ruleCount, planOf}
@@ -76,11 +77,11 @@ module _ (m : List ℕ) (k : ℕ) (below : k < ruleCount m) where
       record { is = is .is; size = is .size; passes = rw (← same) (n .passes); fits = rw (← same) (n .fits) }
 
 -- the length of a prefix is the byte before it
-pub prefix-length : (r : Rule) (s : List ℕ) (n : ℕ) → RuleSlot r s → n ≡ getD s 1 0 → Prefix r n
+pub prefix-length : (r : Rule) (s : List ℕ) (n : ℕ) → RuleSlot r s → n ≡ getD s PREFIX-AT 0 → Prefix r n
 prefix-length r s n slot e =
-    let whole : 19 ≤ length s = slot .bytes .whole in let few : getD s 1 0 ≤ 16 = slot .bytes .prefix in
-    let l : length (filterOf s .prefix) ≡ getD s 1 0 =
-    ap length (prefix-is s (slot .bytes)) ∙ length-take-le (getD s 1 0) (drop 2 s) (rw (length-drop 2 s) (omega arith)) in
+    let whole : FILTER-BYTES ≤ length s = slot .bytes .whole in let few : getD s PREFIX-AT 0 ≤ 16 = slot .bytes .prefix in
+    let l : length (filterOf s .prefix) ≡ getD s PREFIX-AT 0 =
+    ap length (prefix-is s (slot .bytes)) ∙ length-take-le (getD s PREFIX-AT 0) (drop PREFIX-DIGITS-AT s) (rw (length-drop PREFIX-DIGITS-AT s) (omega arith)) in
     record { is = e ∙ sym l ∙ ap (λ (f : Filter). length (f .prefix)) (slot .filter); few = omega arith }
 
 -- THE RULE CHOSEN

@@ -5,6 +5,7 @@ use mathlib.Core.List.{List}
 use mathlib.Core.Option.{some}
 use lib.ListN.{length}
 use lib.Dec.{T}
+use Rattle.meaning.specs.Sizes.{CONTENT-BYTES, RULE-WIDTH}
 use Rattle.meaning.specs.Filters.{filterOf}
 use Rattle.meaning.specs.Rules.{Rule, filterIn, chosenPlace}
 use Rattle.meaning.specs.Actions.{actionsOf}
@@ -12,7 +13,7 @@ use Rattle.meaning.specs.Groups.{fit}
 use Rattle.meaning.specs.Plan.{Plan, held, contentPasses}
 use Rattle.meaning.specs.Answers.{placeChosen}
 use Rattle.meaning.specs.declared.Chosen.{Chosen}
-use Rattle.filter.specs.Slots.{RULE-WIDTH, FilterBytes}
+use Rattle.filter.specs.Slots.{FilterBytes}
 use Rattle.plan.specs.Layout.{planOf}
 
 -- the place of the rule chosen, over a sound plan
@@ -33,6 +34,6 @@ pub record Prefix (r : Rule) (n : ℕ) : Type 0 where
 -- c is the content of the set that rule r names; it passes, and r fits it
 pub record NamedContent (p : Plan) (r : Rule) (c : List ℕ) : Type 0 where
   pub is : held p (r .set) ≡ some c
-  pub size : length c ≡ 45
+  pub size : length c ≡ CONTENT-BYTES
   pub passes : T (contentPasses c)
   pub fits : T (fit (filterIn r) (actionsOf c))

@@ -9,9 +9,8 @@ ghost use Rattle.plan.specs.State.{soundOf};
 ghost use Rattle.choice.specs.Chosen.{ChoicePromise, RuleSlot, Prefix, NamedContent};
 use meaning::Chosen;
 use meaning::RulePlace;
-
-// Where a filter has its prefix's length.
-const PREFIX: usize = 1;
+use meaning::sizes::PREFIX_AT;
+use meaning::sizes::RULE_WIDTH;
 
 // The rule for a number.
 pub fn choose(plan: &[u8], class: u8, digits: &[u8]) -> Chosen
@@ -28,8 +27,8 @@ pub fn rule_slot<'a>(plan: &'a [u8], place: RulePlace) -> &'a [u8]
 {
     let rules = plan::rules(plan);
     let k = place.0 as usize;
-    let a = filter::RULE_WIDTH * k;
-    let e = a + filter::RULE_WIDTH;
+    let a = RULE_WIDTH * k;
+    let e = a + RULE_WIDTH;
     &rules[a..e]
 }
 
@@ -39,7 +38,7 @@ pub fn prefix_at(plan: &[u8], place: RulePlace) -> usize
     ensures { λ r. ⌜ Prefix (getD (planOf (now (plan .entry)) .rules) (place .0) noRule) r ⌝ }
 {
     let slot = rule_slot(plan, place);
-    buffer::wide(slot[PREFIX])
+    buffer::wide(slot[PREFIX_AT])
 }
 
 // The content of the set that the rule at a place names.

@@ -10,19 +10,19 @@ use lib.Seq.{getD-set-same, getD-set-other}
 use lib.Dec.{T, eqb, eqb→eq}
 use borrow.Author.Tests.{eqb-true, eqb-false, eq-eqb, ne-eqb}
 use Rattle.meaning.specs.Basics.{if_then_else_}
-use Rattle.meaning.specs.Actions.{CA, valueOf}
+use Rattle.meaning.specs.Actions.{CCDEF, CA, valueOf}
 use Rattle.meaning.specs.Conditioning.{width, Stretch, stretchFrom, stretchOf}
 use Rattle.meaning.proofs.Tests.{allBelow, at-below}
 use Rattle.meaning.proofs.Stretches.{value-small}
-use Rattle.conditioning.specs.Marks.{Takes, MarksOnce, Markable, Marks, MarksAll}
+use Rattle.conditioning.specs.Marks.{PLACES, Takes, MarksOnce, Markable, Marks, MarksAll}
 use Rattle.conditioning.proofs.Walk.{ccdef-takes-none, takes-its-value}
 
 -- WHICH VALUE AN ACTION TAKES
 
-takes-none : (a : CA) → a .code ≡ 15 → Takes a 0
+takes-none : (a : CA) → a .code ≡ CCDEF → Takes a 0
 takes-none a e = record { is = λ v h. ccdef-takes-none v a e ∙ sym (ne-eqb 0 v (λ z. omega arith)); small = omega arith }
 
-takes-one : (a : CA) (r : ℕ) → a .code ≢ 15 → r ≡ valueOf (a .code) → Takes a r
+takes-one : (a : CA) (r : ℕ) → a .code ≢ CCDEF → r ≡ valueOf (a .code) → Takes a r
 takes-one a r h e =
     record { is = λ v k. takes-its-value v a h ∙ ap (λ (x : ℕ). eqb x v) (sym e); small = omega (arith, value-small (a .code)) }
 
@@ -31,21 +31,21 @@ abbrev valuesTaken : ℕ
 valuesTaken = 456053888748036352
 
 abbrev takenTest : ℕ → Bool
-takenTest c = eqb (valuesTaken / 2 ^ (4 * c) % 16) (if eqb c 15 then 0 else valueOf c)
+takenTest c = eqb (valuesTaken / 2 ^ (4 * c) % 16) (if eqb c CCDEF then 0 else valueOf c)
 
 codes-taken : T (allBelow takenTest 16)
 unfolding valueOf
 codes-taken = tt
 
-pub takes-listed : (a : CA) → a .code ≤ 15 → Takes a (valuesTaken / 2 ^ (4 * a .code) % 16)
-takes-listed a h = go (eqb (a .code) 15) refl (eqb→eq (valuesTaken / 2 ^ (4 * a .code) % 16) (if eqb (a .code) 15 then 0 else valueOf (a .code)) (at-below takenTest 16 codes-taken (a .code) (omega arith)))
+pub takes-listed : (a : CA) → a .code ≤ CCDEF → Takes a (valuesTaken / 2 ^ (4 * a .code) % 16)
+takes-listed a h = go (eqb (a .code) CCDEF) refl (eqb→eq (valuesTaken / 2 ^ (4 * a .code) % 16) (if eqb (a .code) CCDEF then 0 else valueOf (a .code)) (at-below takenTest 16 codes-taken (a .code) (omega arith)))
   where
-    go : (b : Bool) → eqb (a .code) 15 ≡ b → valuesTaken / 2 ^ (4 * a .code) % 16 ≡ (if b then 0 else valueOf (a .code)) → Takes a (valuesTaken / 2 ^ (4 * a .code) % 16)
-    go true e t = subst (Takes a) (sym t) (takes-none a (eqb-true (a .code) 15 e))
-    go false e t = takes-one a (valuesTaken / 2 ^ (4 * a .code) % 16) (eqb-false (a .code) 15 e) t
+    go : (b : Bool) → eqb (a .code) CCDEF ≡ b → valuesTaken / 2 ^ (4 * a .code) % 16 ≡ (if b then 0 else valueOf (a .code)) → Takes a (valuesTaken / 2 ^ (4 * a .code) % 16)
+    go true e t = subst (Takes a) (sym t) (takes-none a (eqb-true (a .code) CCDEF e))
+    go false e t = takes-one a (valuesTaken / 2 ^ (4 * a .code) % 16) (eqb-false (a .code) CCDEF e) t
 
 -- no code stands behind the last
-pub takes-unlisted : (a : CA) → 15 < a .code → Takes a 0
+pub takes-unlisted : (a : CA) → CCDEF < a .code → Takes a 0
 unfolding valueOf
 takes-unlisted a h =
     let past : 16 ≤ a .code = h in
@@ -77,9 +77,9 @@ zero-at zero v = refl
 zero-at (suc n) zero = refl
 zero-at (suc n) (suc v) = zero-at n v
 
-pub markable-anew : (n first : ℕ) → 0 < first → first + n ≤ 255 → Markable n first (replicate 17 0) (replicate 17 0)
+pub markable-anew : (n first : ℕ) → 0 < first → first + n ≤ 255 → Markable n first (replicate PLACES 0) (replicate PLACES 0)
 markable-anew n first h near =
-    record { not-zero = h; near = near; starts-long = refl; counts-long = refl; starts-none = zero-at 17; counts-none = zero-at 17 }
+    record { not-zero = h; near = near; starts-long = refl; counts-long = refl; starts-none = zero-at PLACES; counts-none = zero-at PLACES }
 
 -- the list ends
 pub marking-all : {first prefix n at left : ℕ} {xs : List CA} {starts counts : List ℕ} → Marking first prefix n xs at left [] starts counts → MarksAll prefix n first xs starts counts

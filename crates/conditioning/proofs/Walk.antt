@@ -11,7 +11,7 @@ use lib.Dec.{eqb, ltb}
 use borrow.Author.Tests.{ltb-true, ltb-false, lt-ltb, eqb-true, eq-eqb, ne-eqb}
 use Rattle.meaning.specs.Basics.{if_then_else_, isZero}
 use Rattle.meaning.specs.Filters.{Filter}
-use Rattle.meaning.specs.Actions.{CA, isX, valueOf, ActionSet}
+use Rattle.meaning.specs.Actions.{CCDEF, CA, isX, valueOf, ActionSet}
 use Rattle.meaning.specs.Groups.{fixedOf}
 use Rattle.meaning.specs.Conditioning.{width, meetsTooFew, short, Stretch, takesValue, digitsAt}
 use Rattle.meaning.specs.Reads.{stretchBy}
@@ -51,11 +51,11 @@ enough-for prefix left {w} {a} {xs} {ys} p q e =
     rw p (enough prefix left a (is-false few (or-left-false few rest t)), is-false rest (or-right-false few rest t))
 
 -- CCDEF takes no value, and any other action its own
-pub ccdef-takes-none : (v : ℕ) (a : CA) → a .code ≡ 15 → takesValue v a ≡ false
-ccdef-takes-none v a e = rw (eq-eqb (a .code) 15 e, and-false)
+pub ccdef-takes-none : (v : ℕ) (a : CA) → a .code ≡ CCDEF → takesValue v a ≡ false
+ccdef-takes-none v a e = rw (eq-eqb (a .code) CCDEF e, and-false)
 
-pub takes-its-value : (v : ℕ) (a : CA) → a .code ≢ 15 → takesValue v a ≡ eqb (valueOf (a .code)) v
-takes-its-value v a h = rw (ne-eqb (a .code) 15 h, and-true)
+pub takes-its-value : (v : ℕ) (a : CA) → a .code ≢ CCDEF → takesValue v a ≡ eqb (valueOf (a .code)) v
+takes-its-value v a h = rw (ne-eqb (a .code) CCDEF h, and-true)
 
 -- a span lends the digits of the stretch that it covers
 pub covered : {n : ℕ} {s : Stretch} {r : Span} (ds : List ℕ) → Covers n s r

@@ -6,13 +6,17 @@ use mathlib.Core.Bool.{Bool, false}
 use mathlib.Core.List.{List}
 use lib.ListN.{length, getD, set}
 use lib.Dec.{eqb}
-use Rattle.meaning.specs.Actions.{CA}
+use Rattle.meaning.specs.Actions.{LAST-CONDITIONED, DELIMITER-B, CA}
 use Rattle.meaning.specs.Conditioning.{short, Stretch, takesValue, stretchOf}
+
+-- a table of values has a place for each formatting code, and place 0 for none
+abbrev pub PLACES : ℕ
+PLACES = DELIMITER-B + 1
 
 -- r is the value whose digits an action takes; 0 is that of none
 pub record Takes (a : CA) (r : ℕ) : Type 0 where
   pub is : (v : ℕ) → 0 < v → takesValue v a ≡ eqb r v
-  pub small : r ≤ 10
+  pub small : r ≤ LAST-CONDITIONED
 
 -- the table before and after a mark at v: what is marked stays
 pub record MarksOnce (v start count : ℕ) (starts counts starts' counts' : List ℕ) : Type 0 where
@@ -23,8 +27,8 @@ pub record MarksOnce (v start count : ℕ) (starts counts starts' counts' : List
 pub record Markable (n first : ℕ) (starts counts : List ℕ) : Type 0 where
   pub not-zero : 0 < first
   pub near : first + n ≤ 255
-  pub starts-long : length starts ≡ 17
-  pub counts-long : length counts ≡ 17
+  pub starts-long : length starts ≡ PLACES
+  pub counts-long : length counts ≡ PLACES
   pub starts-none : (v : ℕ) → getD starts v 0 ≡ 0
   pub counts-none : (v : ℕ) → getD counts v 0 ≡ 0
 

@@ -5,6 +5,8 @@ use actions::fixed_of;
 use actions::is_x;
 use actions::value_of;
 use meaning::Span;
+use meaning::ca::CCDEF;
+use meaning::fa::DELIMITER_B;
 ghost use mathlib.Core.Path.{_≡_};
 ghost use mathlib.Core.Bool.{false};
 ghost use Prim.Native.Nat.{_<_};
@@ -16,8 +18,6 @@ ghost use Rattle.meaning.specs.Conditioning.{width, meetsTooFew, short, takesVa
 ghost use Rattle.actions.specs.Reading.{actionOf};
 ghost use Rattle.conditioning.specs.Spans.{stretchIn, Covers};
 ghost use Rattle.conditioning.specs.Marks.{Takes, MarksOnce, Markable, MarksUnlessShort};
-
-const CCDEF: u8 = 15;
 
 // How many digits an action takes where `left` are left. The fixed count is worked out before the test, so that the compiler can pick one of the two without a jump.
 fn width(a: ConditioningAction, prefix: usize, left: usize) -> usize
@@ -120,7 +120,7 @@ pub fn stretch_in<'a>(cas: &[u8], prefix: usize, digits: &'a [u8], v: u8) -> &'a
 // MARKS: where the digits of every value lie, found in one walk
 
 // The places of a table of marks: one for each formatting code, of which conditioning sets the first ten, and place 0 for actions that take no value.
-pub const PLACES: usize = 17;
+pub const PLACES: usize = DELIMITER_B as usize + 1;
 
 // The value whose digits each conditioning code takes, four bits for a code, the lowest for code 0: those that it sets, but none for CCDEF. A number and
 // not an array, so that nothing is read from memory.
@@ -131,7 +131,7 @@ fn value_taken(a: ConditioningAction) -> usize
     ensures { λ r. ⌜ Takes (actionOf a) r ⌝ }
 {
     let code = a.code;
-    if 15 < code {
+    if CCDEF < code {
         return 0;
     }
     (VALUES_TAKEN >> (4 * code)) as usize % 16

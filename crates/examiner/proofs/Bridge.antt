@@ -8,6 +8,7 @@ use native.Mathlib.Omega.{arith}
 use lib.ListN.{length, take, drop, length-drop, take-append-drop}
 use lib.Seq.{take-add, take-at, drop-at, length-take-le}
 use lib.Dec.{T, le→leb}
+use Rattle.meaning.specs.Sizes.{ROOMS-BYTES, SETTINGS-BYTES, SETTINGS-AT, SETS-AT, SET-WIDTH, RULE-WIDTH}
 use Rattle.meaning.specs.Basics.{all, word}
 use Rattle.meaning.specs.Settings.{roomsOf, bytesNeeded}
 use Rattle.meaning.specs.Rules.{Rule, inOrder}
@@ -44,15 +45,15 @@ module _ (m : List ℕ) where
 
   -- THE MEMORY'S PARTS
 
-  bytes-parts : take (sizeOf m) m ≡ take 64 m ++ (sets ++ rules)
+  bytes-parts : take (sizeOf m) m ≡ take SETS-AT m ++ (sets ++ rules)
   unfolding bytesNeeded
   bytes-parts =
-      take-add (64 + 48 * setRoom m) (24 * ruleRoom m) m
-      ∙ ap (λ (l : List ℕ). l ++ rules) (take-add 64 (48 * setRoom m) m) ∙ append-assoc (take 64 m) sets rules
+      take-add (SETS-AT + SET-WIDTH * setRoom m) (RULE-WIDTH * ruleRoom m) m
+      ∙ ap (λ (l : List ℕ). l ++ rules) (take-add SETS-AT (SET-WIDTH * setRoom m) m) ∙ append-assoc (take SETS-AT m) sets rules
 
   slots-in : planOf m .slots ≡ slotsOf (setRoom m) sets
   unfolding planOf slotsOf
-  slots-in = ap (map slotOf) (sym (slots-part 48 (setRoom m) (48 * setRoom m) (drop 64 m) (omega arith)))
+  slots-in = ap (map slotOf) (sym (slots-part SET-WIDTH (setRoom m) (SET-WIDTH * setRoom m) (drop SETS-AT m) (omega arith)))
 
   sets-image : setsImage (planOf m) ≡ flat (map (slotImage 0) (slotsOf (setRoom m) sets))
   unfolding setsImage
@@ -61,21 +62,21 @@ module _ (m : List ℕ) where
   module _ (h : Header m) where
     rules-in : planOf m .rules ≡ rulesOf (ruleCount m) rules
     unfolding planOf
-    rules-in = sym (rules-part (ruleCount m) (24 * ruleRoom m) (drop (64 + 48 * setRoom m) m) (omega (arith, h .held)))
+    rules-in = sym (rules-part (ruleCount m) (RULE-WIDTH * ruleRoom m) (drop (SETS-AT + SET-WIDTH * setRoom m) m) (omega (arith, h .held)))
 
-    rules-image : rulesImage (planOf m) ≡ flat (map ruleImage (rulesOf (ruleCount m) rules)) ++ zeros (24 * free)
+    rules-image : rulesImage (planOf m) ≡ flat (map ruleImage (rulesOf (ruleCount m) rules)) ++ zeros (RULE-WIDTH * free)
     unfolding rulesImage planOf
     rules-image =
-        ap (λ (rs : List Rule). flat (map ruleImage rs) ++ zeros (24 * (ruleRoom m - length rs))) rules-in
-        ∙ ap (λ n. flat (map ruleImage (rulesOf (ruleCount m) rules)) ++ zeros (24 * (ruleRoom m - n))) (length-rules (ruleCount m) rules)
+        ap (λ (rs : List Rule). flat (map ruleImage rs) ++ zeros (RULE-WIDTH * (ruleRoom m - length rs))) rules-in
+        ∙ ap (λ n. flat (map ruleImage (rulesOf (ruleCount m) rules)) ++ zeros (RULE-WIDTH * (ruleRoom m - n))) (length-rules (ruleCount m) rules)
 
-    set-size : length sets ≡ 48 * setRoom m
-    set-size = let n = header-numbers m h in length-take-le (48 * setRoom m) (drop 64 m) (rw (length-drop 64 m) (omega arith))
+    set-size : length sets ≡ SET-WIDTH * setRoom m
+    set-size = let n = header-numbers m h in length-take-le (SET-WIDTH * setRoom m) (drop SETS-AT m) (rw (length-drop SETS-AT m) (omega arith))
 
-    rule-size : length rules ≡ 24 * ruleCount m + 24 * free
+    rule-size : length rules ≡ RULE-WIDTH * ruleCount m + RULE-WIDTH * free
     rule-size =
         let n = header-numbers m h in
-        length-take-le (24 * ruleRoom m) (drop (64 + 48 * setRoom m) m) (rw (length-drop (64 + 48 * setRoom m) m) (omega arith)) ∙ omega arith
+        length-take-le (RULE-WIDTH * ruleRoom m) (drop (SETS-AT + SET-WIDTH * setRoom m) m) (rw (length-drop (SETS-AT + SET-WIDTH * setRoom m) m) (omega arith)) ∙ omega arith
 
   -- A MEMORY THAT PASSES IS SOUND
 
@@ -84,13 +85,13 @@ module _ (m : List ℕ) where
     unfolding planOf
     plan-sound =
         record {
-          rooms-size = length-take-le 4 (drop 8 m) (rw (length-drop 8 m) (omega (arith, h .whole)));
+          rooms-size = length-take-le ROOMS-BYTES (drop 8 m) (rw (length-drop 8 m) (omega (arith, h .whole)));
           rooms-range = h .rooms;
-          settings-size = length-take-le 36 (drop 12 m) (rw (length-drop 12 m) (omega (arith, h .whole)));
+          settings-size = length-take-le SETTINGS-BYTES (drop SETTINGS-AT m) (rw (length-drop SETTINGS-AT m) (omega (arith, h .whole)));
           settings-range = h .settings;
-          room = length-sets (setRoom m) (drop 64 m);
+          room = length-sets (setRoom m) (drop SETS-AT m);
           pass = subst (λ (os : List (Option (List ℕ))). T (all slotPasses os)) (sym slots-in) (k .pass);
-          few = rw (length-rules (ruleCount m) (drop (64 + 48 * setRoom m) m)) (h .held);
+          few = rw (length-rules (ruleCount m) (drop (SETS-AT + SET-WIDTH * setRoom m) m)) (h .held);
           codes = subst (λ (rs : List Rule). T (codesPass rs)) (sym (rules-in h)) (k .codes);
           order = subst (λ (rs : List Rule). T (inOrder rs)) (sym (rules-in h)) (k .order);
           fits = subst T (sym (ap₂ rulesFit slots-in (rules-in h))) (k .fits);
@@ -99,7 +100,7 @@ module _ (m : List ℕ) where
     own-bytes : Bytes m → take (sizeOf m) m ≡ image (planOf m)
     unfolding image
     own-bytes b =
-        let header : headerImage (planOf m) ≡ take 64 m = header-image m h b in
+        let header : headerImage (planOf m) ≡ take SETS-AT m = header-image m h b in
         let behind : setsImage (planOf m) ++ rulesImage (planOf m) ≡ sets ++ rules =
         ap₂ (λ (x y : List ℕ). x ++ y) (sets-image ∙ k .set-bytes) (rules-image h ∙ k .rule-bytes) in
         bytes-parts ∙ sym (ap₂ (λ (x y : List ℕ). x ++ y) header behind)
@@ -108,7 +109,7 @@ module _ (m : List ℕ) where
     unfolding soundOf
     passing-sound b =
         each-all (soundTests m) (
-          le→leb 64 (length m) (h .whole),
+          le→leb SETS-AT (length m) (h .whole),
           (le→leb (sizeOf m) (length m) (h .fits), (sound-of (planOf m) plan-sound, (rw (own-bytes b) (same-self (image (planOf m))), tt))),
         )
 
@@ -116,29 +117,29 @@ module _ (m : List ℕ) where
 
   module _ (s : SoundMemory m) where
     -- the header's bytes, and those behind it
-    cut-header : (take 64 m ≡ headerImage (planOf m)) × (sets ++ rules ≡ setsImage (planOf m) ++ rulesImage (planOf m))
+    cut-header : (take SETS-AT m ≡ headerImage (planOf m)) × (sets ++ rules ≡ setsImage (planOf m) ++ rulesImage (planOf m))
     unfolding image
     cut-header =
-        append-same (take 64 m) (sets ++ rules) (headerImage (planOf m)) (setsImage (planOf m) ++ rulesImage (planOf m)) 64 (length-take-le 64 m (s .header))
+        append-same (take SETS-AT m) (sets ++ rules) (headerImage (planOf m)) (setsImage (planOf m) ++ rulesImage (planOf m)) SETS-AT (length-take-le SETS-AT m (s .header))
         (header-size (planOf m) (s .plan)) (sym bytes-parts ∙ s .own)
 
     sound-header : Header m
     unfolding planOf
     sound-header =
-        let again : headerImage (planOf m) ++ drop 64 m ≡ m = ap (λ (l : List ℕ). l ++ drop 64 m) (sym (cut-header .0)) ∙ take-append-drop 64 m in
+        let again : headerImage (planOf m) ++ drop SETS-AT m ≡ m = ap (λ (l : List ℕ). l ++ drop SETS-AT m) (sym (cut-header .0)) ∙ take-append-drop SETS-AT m in
         record {
           whole = s .header;
-          fixed = subst (λ (l : List ℕ). T (fixedPass l)) again (image-fixed (planOf m) (s .plan) (drop 64 m));
+          fixed = subst (λ (l : List ℕ). T (fixedPass l)) again (image-fixed (planOf m) (s .plan) (drop SETS-AT m));
           rooms = s .plan .rooms-range;
           settings = s .plan .settings-range;
-          held = rw (length-rules (ruleCount m) (drop (64 + 48 * setRoom m) m)) at (s .plan .few);
+          held = rw (length-rules (ruleCount m) (drop (SETS-AT + SET-WIDTH * setRoom m) m)) at (s .plan .few);
           fits = s .fits;
         }
 
     cut-sets : (sets ≡ setsImage (planOf m)) × (rules ≡ rulesImage (planOf m))
     unfolding planOf
     cut-sets =
-        append-same sets rules (setsImage (planOf m)) (rulesImage (planOf m)) (48 * setRoom m) (set-size sound-header) (sets-size (planOf m) (s .plan)) (cut-header .1)
+        append-same sets rules (setsImage (planOf m)) (rulesImage (planOf m)) (SET-WIDTH * setRoom m) (set-size sound-header) (sets-size (planOf m) (s .plan)) (cut-header .1)
 
     sound-held : Held (setRoom m) sets (ruleCount m) free rules
     sound-held =
@@ -162,8 +163,8 @@ module _ (m : List ℕ) where
       to t =
           let h : Header m = header-parts m (and-left (headerPasses m) (areasPass (setRoom m) sets (ruleCount m) rules) t) in
           let k : Held (setRoom m) sets (ruleCount m) free rules =
-          held-of (setRoom m) sets (ruleCount m) free rules (set-size h) (rule-size h) (bytes-take (48 * setRoom m) (drop 64 m) (bytes-drop 64 m b))
-          (bytes-take (24 * ruleRoom m) (drop (64 + 48 * setRoom m) m) (bytes-drop (64 + 48 * setRoom m) m b))
+          held-of (setRoom m) sets (ruleCount m) free rules (set-size h) (rule-size h) (bytes-take (SET-WIDTH * setRoom m) (drop SETS-AT m) (bytes-drop SETS-AT m b))
+          (bytes-take (RULE-WIDTH * ruleRoom m) (drop (SETS-AT + SET-WIDTH * setRoom m) m) (bytes-drop (SETS-AT + SET-WIDTH * setRoom m) m b))
           (and-right (headerPasses m) (areasPass (setRoom m) sets (ruleCount m) rules) t) in
           passing-sound h k b
 

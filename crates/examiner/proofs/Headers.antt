@@ -1,29 +1,32 @@
 -- A header passes exactly if its bytes are the image's header and its fields are in range; and the numbers that it gives.
-use Prim.Native.Nat.{ℕ, _+_, _≤_}
+use Prim.Native.Nat.{ℕ, _+_, _-_, _≤_}
 use mathlib.Core.Path.{_≡_, refl, ap, ap₂, sym, _∙_}
 use mathlib.Core.List.{List, [], _∷_, _++_, append-assoc}
 use native.Mathlib.Omega.{arith}
 use lib.ListN.{length, take, drop}
-use lib.Seq.{take-add, drop-drop, drop-at}
+use lib.Seq.{take-add, take-at, drop-drop, drop-at}
 use lib.Dec.{T, eqb, eqb→eq, leb, leb→le, le→leb}
+use Rattle.meaning.specs.Sizes.{ROOMS-BYTES, SETTINGS-BYTES, OPENING-BYTES, SETTINGS-AT, SETTINGS-END, SETS-AT}
 use Rattle.meaning.specs.Basics.{all, isZero, word, within, part, beginsWith}
 use Rattle.meaning.specs.Settings.{roomsOf, roomsInRange, bytesNeeded, settingsInRange}
 use Rattle.meaning.specs.Plan.{Plan}
 use Rattle.meaning.proofs.Tests.{and-left, and-right, each-all, all-at}
 use Rattle.meaning.proofs.Soundness.{Sound}
 use Rattle.buffer.specs.Zeros.{zeros}
+use Rattle.buffer.proofs.ZeroLaws.{length-zeros, zeros-pass}
 use Rattle.filter.proofs.RuleLaws.{length-rules}
 use Rattle.plan.specs.Layout.{mark, wordBytes, headerImage, roomsAt, sizeOf, setRoom, ruleRoom, ruleCount, rulesFrom, planOf}
+use Rattle.plan.proofs.ImageLaws.{two-unused}
 use Rattle.examiner.specs.Examined.{fixedTests, fixedPass, openingTests, openingPasses, sizeTests, sizesPass, headerTests, headerPasses, Sized}
 use Rattle.examiner.proofs.Bytes.{Bytes, word-again, part-zeros}
 
 -- WHAT A HEADER THAT PASSES HAS
 
 pub record Header (m : List ℕ) : Type 0 where
-  pub whole : 64 ≤ length m
+  pub whole : SETS-AT ≤ length m
   pub fixed : T (fixedPass m)
   pub rooms : T (roomsInRange (roomsAt m))
-  pub settings : T (settingsInRange (part 12 36 m))
+  pub settings : T (settingsInRange (part SETTINGS-AT SETTINGS-BYTES m))
   pub held : ruleCount m ≤ ruleRoom m
   pub fits : sizeOf m ≤ length m
 
@@ -33,7 +36,7 @@ header-parts m t =
     let opening : T (openingPasses m) = all-at 2 (headerTests m) t in
     let sizes : T (sizesPass m) = all-at 3 (headerTests m) t in
     record {
-      whole = leb→le 64 (length m) (all-at 0 (headerTests m) t);
+      whole = leb→le SETS-AT (length m) (all-at 0 (headerTests m) t);
       fixed = all-at 1 (headerTests m) t;
       rooms = all-at 0 (openingTests m) opening;
       settings = all-at 1 (openingTests m) opening;
@@ -45,7 +48,7 @@ pub header-of : (m : List ℕ) → Header m → T (headerPasses m)
 unfolding headerPasses openingPasses sizesPass
 header-of m h =
     each-all (headerTests m) (
-      le→leb 64 (length m) (h .whole),
+      le→leb SETS-AT (length m) (h .whole),
       (
         h .fixed,
         (
@@ -81,26 +84,36 @@ begins-taken (x ∷ p) [] t = absurd t
 begins-taken (x ∷ p) (y ∷ m) t =
     ap₂ _∷_ (sym (eqb→eq x y (and-left (eqb x y) (beginsWith p m) t))) (begins-taken p m (and-right (eqb x y) (beginsWith p m) t))
 
-pub header-image : (m : List ℕ) → Header m → Bytes m → headerImage (planOf m) ≡ take 64 m
+pub header-image : (m : List ℕ) → Header m → Bytes m → headerImage (planOf m) ≡ take SETS-AT m
 unfolding headerImage planOf fixedPass
 header-image m h bytes =
-    let whole : 64 ≤ length m = h .whole in
+    let whole : SETS-AT ≤ length m = h .whole in
     let marked : take 4 m ≡ mark = begins-taken mark m (all-at 0 (fixedTests m) (h .fixed)) in
     let count : part 4 2 m ≡ wordBytes (ruleCount m) = sym (ap (take 2) (word-again m 4 (omega arith) bytes)) in
     let unused : part 6 2 m ≡ zeros 2 = part-zeros 6 2 m (omega arith) (all-at 1 (fixedTests m) (h .fixed)) in
-    let last : part 48 16 m ≡ zeros 16 = part-zeros 48 16 m (omega arith) (all-at 2 (fixedTests m) (h .fixed)) in
-    let parts : take 64 m ≡ take 4 m ++ (part 4 2 m ++ (part 6 2 m ++ (part 8 4 m ++ (part 12 36 m ++ part 48 16 m)))) =
-    part-next 0 4 60 m ∙ rw (part-next 4 2 58 m, part-next 6 2 56 m, part-next 8 4 52 m, part-next 12 36 16 m) in
+    let rest : ℕ = SETS-AT - SETTINGS-END in
+    let last : part SETTINGS-END rest m ≡ zeros rest = part-zeros SETTINGS-END rest m (omega arith) (all-at 2 (fixedTests m) (h .fixed)) in
+    let parts : take SETS-AT m ≡ take 4 m ++ (part 4 2 m ++ (part 6 2 m ++ (roomsAt m ++ (part SETTINGS-AT SETTINGS-BYTES m ++ part SETTINGS-END rest m)))) =
+    part-next 0 4 (SETS-AT - 4) m
+    ∙ rw (part-next 4 2 (SETS-AT - 6) m, part-next 6 2 (SETS-AT - 8) m, part-next 8 ROOMS-BYTES (SETS-AT - SETTINGS-AT) m, part-next SETTINGS-AT SETTINGS-BYTES rest m) in
     sym (parts ∙ rw (marked, count, unused, last, length-rules (ruleCount m) (rulesFrom m)))
 
 -- the bytes that the image's header has alike for every plan
-pub image-fixed : (p : Plan) → Sound p → (rest : List ℕ) → T (fixedPass (headerImage p ++ rest))
-unfolding headerImage fixedPass zeros
-image-fixed p s rest =
-    let behind : drop 40 ((p .rooms ++ (p .settings ++ zeros 16)) ++ rest) ≡ zeros 16 ++ rest =
-    ap (drop 40) (append-assoc (p .rooms) (p .settings ++ zeros 16) rest ∙ ap (λ (l : List ℕ). p .rooms ++ l) (append-assoc (p .settings) (zeros 16) rest))
-    ∙ sym (drop-drop 36 4 (p .rooms ++ (p .settings ++ (zeros 16 ++ rest))))
-    ∙ ap (drop 36) (drop-at (p .rooms) (p .settings ++ (zeros 16 ++ rest)) 4 (s .rooms-size))
-    ∙ drop-at (p .settings) (zeros 16 ++ rest) 36 (s .settings-size) in
-    let last : T (all isZero (take 16 (drop 40 ((p .rooms ++ (p .settings ++ zeros 16)) ++ rest)))) = rw behind tt in
-    each-all (fixedTests (headerImage p ++ rest)) (tt, (tt, (last, tt)))
+module _ (p : Plan) (s : Sound p) (rest : List ℕ) where
+  abbrev unused : List ℕ
+  unused = zeros (SETS-AT - SETTINGS-END)
+
+  header-shape : headerImage p ++ rest ≡ mark ++ (wordBytes (length (p .rules)) ++ 0 ∷ 0 ∷ (p .rooms ++ (p .settings ++ (unused ++ rest))))
+  unfolding headerImage
+  header-shape = rw two-unused (simp append-assoc)
+
+  pub image-fixed : T (fixedPass (headerImage p ++ rest))
+  unfolding fixedPass
+  image-fixed =
+      let opening : List ℕ = p .rooms ++ (p .settings ++ (unused ++ rest)) in
+      let behind : drop OPENING-BYTES opening ≡ unused ++ rest =
+      sym (drop-drop SETTINGS-BYTES ROOMS-BYTES opening) ∙ ap (drop SETTINGS-BYTES) (drop-at (p .rooms) (p .settings ++ (unused ++ rest)) ROOMS-BYTES (s .rooms-size))
+      ∙ drop-at (p .settings) (unused ++ rest) SETTINGS-BYTES (s .settings-size) in
+      let last : T (all isZero (take (SETS-AT - SETTINGS-END) (drop OPENING-BYTES opening))) =
+      rw (behind, take-at unused rest (SETS-AT - SETTINGS-END) (length-zeros (SETS-AT - SETTINGS-END))) (zeros-pass (SETS-AT - SETTINGS-END)) in
+      rw header-shape (each-all (fixedTests (mark ++ (wordBytes (length (p .rules)) ++ 0 ∷ 0 ∷ opening))) (tt, (tt, (last, tt))))

@@ -8,6 +8,7 @@ use native.Mathlib.Omega.{arith}
 use lib.ListN.{length, drop, length-drop, length-map, take-append-drop}
 use lib.Seq.{take-all, drop-at, length-take-le}
 use lib.Dec.{T}
+use Rattle.meaning.specs.Sizes.{SET-WIDTH, RULE-WIDTH}
 use Rattle.meaning.specs.Basics.{all, isZero}
 use Rattle.meaning.specs.Rules.{Rule, inOrder}
 use Rattle.meaning.specs.Plan.{slotPasses, codePasses, rulesFit, codesPass}
@@ -69,7 +70,7 @@ slots-are w n g xs rest m wide many e = rw (← e, ← many, ← length-map xs g
 
 pub length-sets : (n : ℕ) (m : List ℕ) → length (slotsOf n m) ≡ n
 unfolding slotsOf
-length-sets n m = length-map (slots 48 n m) slotOf ∙ length-slots 48 n m
+length-sets n m = length-map (slots SET-WIDTH n m) slotOf ∙ length-slots SET-WIDTH n m
 
 abbrev rulePasses : Rule → Bool
 rulePasses r = codePasses (r .code)
@@ -82,33 +83,33 @@ module _ (room : ℕ) (sets : List ℕ) (count rest : ℕ) (rules : List ℕ) wh
     pub order : T (inOrder (rulesOf count rules))
     pub fits : T (rulesFit (slotsOf room sets) (rulesOf count rules))
     pub set-bytes : flat (map (slotImage 0) (slotsOf room sets)) ≡ sets
-    pub rule-bytes : flat (map ruleImage (rulesOf count rules)) ++ zeros (24 * rest) ≡ rules
+    pub rule-bytes : flat (map ruleImage (rulesOf count rules)) ++ zeros (RULE-WIDTH * rest) ≡ rules
 
-  module _ (set-size : length sets ≡ 48 * room) (rule-size-is : length rules ≡ 24 * count + 24 * rest) where
+  module _ (set-size : length sets ≡ SET-WIDTH * room) (rule-size-is : length rules ≡ RULE-WIDTH * count + RULE-WIDTH * rest) where
     pub held-of : Bytes sets → Bytes rules → T (areasPass room sets count rules) → Held
     unfolding areasPass slotsOf rulesOf codesPass rulesFit setFits
     held-of b c t =
-        let ss : List (List ℕ) = slots 48 room sets in
-        let rs : List (List ℕ) = slots 24 count rules in
-        let s-are : Slots 48 ss = cut-slots 48 room sets (omega arith) b in
-        let r-are : Slots 24 rs = cut-slots 24 count rules (omega arith) c in
+        let ss : List (List ℕ) = slots SET-WIDTH room sets in
+        let rs : List (List ℕ) = slots RULE-WIDTH count rules in
+        let s-are : Slots SET-WIDTH ss = cut-slots SET-WIDTH room sets (omega arith) b in
+        let r-are : Slots RULE-WIDTH rs = cut-slots RULE-WIDTH count rules (omega arith) c in
         let s-pass : T (all slotTest ss) = all-at 0 (areasTests room sets count rules) t in
         let r-pass : T (all (ruleTest room sets) rs) = all-at 1 (areasTests room sets count rules) t in
-        let free : drop (24 * count) rules ≡ zeros (24 * rest) =
-        all-zeros (drop (24 * count) rules) (all-at 3 (areasTests room sets count rules) t) ∙ ap zeros (length-drop (24 * count) rules ∙ omega arith) in
+        let free : drop (RULE-WIDTH * count) rules ≡ zeros (RULE-WIDTH * rest) =
+        all-zeros (drop (RULE-WIDTH * count) rules) (all-at 3 (areasTests room sets count rules) t) ∙ ap zeros (length-drop (RULE-WIDTH * count) rules ∙ omega arith) in
         record {
-          pass = reads-pass 48 slotOf (slotImage 0) slotTest slotPasses slot-content ss s-are s-pass;
-          codes = reads-pass 24 ruleOf ruleImage (ruleTest room sets) rulePasses (rule-code room sets) rs r-are r-pass;
+          pass = reads-pass SET-WIDTH slotOf (slotImage 0) slotTest slotPasses slot-content ss s-are s-pass;
+          codes = reads-pass RULE-WIDTH ruleOf ruleImage (ruleTest room sets) rulePasses (rule-code room sets) rs r-are r-pass;
           order = rising-order (map ruleOf rs) (all-at 2 (areasTests room sets count rules) t);
-          fits = reads-pass 24 ruleOf ruleImage (ruleTest room sets) (setFits room sets) (rule-fits room sets) rs r-are r-pass;
+          fits = reads-pass RULE-WIDTH ruleOf ruleImage (ruleTest room sets) (setFits room sets) (rule-fits room sets) rs r-are r-pass;
           set-bytes =
-              ap flat (images-are 48 slotOf (slotImage 0) slotTest slotPasses (λ s h k. slot-image s h) ss s-are s-pass)
-              ∙ flat-slots 48 room sets ∙ take-all (48 * room) sets (omega arith);
+              ap flat (images-are SET-WIDTH slotOf (slotImage 0) slotTest slotPasses (λ s h k. slot-image s h) ss s-are s-pass)
+              ∙ flat-slots SET-WIDTH room sets ∙ take-all (SET-WIDTH * room) sets (omega arith);
           rule-bytes =
               ap₂ (λ (x y : List ℕ). x ++ y)
-              (ap flat (images-are 24 ruleOf ruleImage (ruleTest room sets) rulePasses (λ s h k u. rule-image room sets s h u k) rs r-are r-pass) ∙ flat-slots 24 count rules)
+              (ap flat (images-are RULE-WIDTH ruleOf ruleImage (ruleTest room sets) rulePasses (λ s h k u. rule-image room sets s h u k) rs r-are r-pass) ∙ flat-slots RULE-WIDTH count rules)
               (sym free)
-              ∙ take-append-drop (24 * count) rules;
+              ∙ take-append-drop (RULE-WIDTH * count) rules;
         }
 
   pub held-pass : Held → T (areasPass room sets count rules)
@@ -116,18 +117,18 @@ module _ (room : ℕ) (sets : List ℕ) (count rest : ℕ) (rules : List ℕ) wh
   held-pass h =
       let os : List (Option (List ℕ)) = slotsOf room sets in
       let rs : List Rule = rulesOf count rules in
-      let s-wide : Wide 48 (map (slotImage 0) os) = images-wide 48 slotOf (slotImage 0) slotTest slotPasses (slot-size 0) os (h .pass) in
-      let r-wide : Wide 24 (map ruleImage rs) = images-wide 24 ruleOf ruleImage (ruleTest room sets) rulePasses rule-size rs (h .codes) in
-      let s-slots : slots 48 room sets ≡ map (slotImage 0) os =
-      slots-are 48 room (slotImage 0) os [] sets s-wide (length-sets room sets) (append-nil (flat (map (slotImage 0) os)) ∙ h .set-bytes) in
-      let r-slots : slots 24 count rules ≡ map ruleImage rs = slots-are 24 count ruleImage rs (zeros (24 * rest)) rules r-wide (length-rules count rules) (h .rule-bytes) in
-      let many : length (flat (map ruleImage rs)) ≡ 24 * count = length-flat 24 (map ruleImage rs) r-wide ∙ ap (λ n. 24 * n) (length-map rs ruleImage ∙ length-rules count rules) in
-      let free : drop (24 * count) rules ≡ zeros (24 * rest) =
-      ap (drop (24 * count)) (sym (h .rule-bytes)) ∙ drop-at (flat (map ruleImage rs)) (zeros (24 * rest)) (24 * count) many in
-      let s-pass : T (all slotTest (slots 48 room sets)) = rw s-slots (images-pass 48 slotOf (slotImage 0) slotTest slotPasses image-passes os (h .pass)) in
-      let r-pass : T (all (ruleTest room sets) (slots 24 count rules)) =
-      rw r-slots (images-pass 24 ruleOf ruleImage (ruleTest room sets) (λ r. rulePasses r && setFits room sets r)
+      let s-wide : Wide SET-WIDTH (map (slotImage 0) os) = images-wide SET-WIDTH slotOf (slotImage 0) slotTest slotPasses (slot-size 0) os (h .pass) in
+      let r-wide : Wide RULE-WIDTH (map ruleImage rs) = images-wide RULE-WIDTH ruleOf ruleImage (ruleTest room sets) rulePasses rule-size rs (h .codes) in
+      let s-slots : slots SET-WIDTH room sets ≡ map (slotImage 0) os =
+      slots-are SET-WIDTH room (slotImage 0) os [] sets s-wide (length-sets room sets) (append-nil (flat (map (slotImage 0) os)) ∙ h .set-bytes) in
+      let r-slots : slots RULE-WIDTH count rules ≡ map ruleImage rs = slots-are RULE-WIDTH count ruleImage rs (zeros (RULE-WIDTH * rest)) rules r-wide (length-rules count rules) (h .rule-bytes) in
+      let many : length (flat (map ruleImage rs)) ≡ RULE-WIDTH * count = length-flat RULE-WIDTH (map ruleImage rs) r-wide ∙ ap (λ n. RULE-WIDTH * n) (length-map rs ruleImage ∙ length-rules count rules) in
+      let free : drop (RULE-WIDTH * count) rules ≡ zeros (RULE-WIDTH * rest) =
+      ap (drop (RULE-WIDTH * count)) (sym (h .rule-bytes)) ∙ drop-at (flat (map ruleImage rs)) (zeros (RULE-WIDTH * rest)) (RULE-WIDTH * count) many in
+      let s-pass : T (all slotTest (slots SET-WIDTH room sets)) = rw s-slots (images-pass SET-WIDTH slotOf (slotImage 0) slotTest slotPasses image-passes os (h .pass)) in
+      let r-pass : T (all (ruleTest room sets) (slots RULE-WIDTH count rules)) =
+      rw r-slots (images-pass RULE-WIDTH ruleOf ruleImage (ruleTest room sets) (λ r. rulePasses r && setFits room sets r)
       (λ r t. rule-passes room sets r (and-left (rulePasses r) (setFits room sets r) t) (and-right (rulePasses r) (setFits room sets r) t))
       rs (all-both rulePasses (setFits room sets) rs (h .codes) (h .fits))) in
-      let unused : T (all isZero (drop (24 * count) rules)) = rw free (zeros-pass (24 * rest)) in
+      let unused : T (all isZero (drop (RULE-WIDTH * count) rules)) = rw free (zeros-pass (RULE-WIDTH * rest)) in
       each-all (areasTests room sets count rules) (s-pass, (r-pass, (order-rising rs (h .order), (unused, tt))))

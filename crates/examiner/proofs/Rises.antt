@@ -7,6 +7,7 @@ use native.Mathlib.Omega.{arith}
 use lib.ListN.{take, drop}
 use lib.Dec.{T, leb}
 use borrow.Author.Tests.{leb-true, leb-false}
+use Rattle.meaning.specs.Sizes.{RULE-WIDTH}
 use Rattle.meaning.specs.Basics.{all}
 use Rattle.meaning.specs.Filters.{filterOf, compareFilters, isLt}
 use Rattle.meaning.specs.Rules.{Rule, filterIn, inOrder}
@@ -52,8 +53,8 @@ risen-none n m = rw (rules-full n m)
 
 module _ (n i : ℕ) (m : List ℕ) where
   -- the next slot has a filter's bytes, as the part that is lent
-  pub next-bytes : RuleArea n m → i + 1 < n → FilterBytes (take (24 * i + 24 + 24 - (24 * i + 24)) (drop (24 * i + 24) m))
-  next-bytes area h = rw (times-more 24 i) at (slot-bytes n (i + 1) m area h)
+  pub next-bytes : RuleArea n m → i + 1 < n → FilterBytes (take (RULE-WIDTH * i + RULE-WIDTH + RULE-WIDTH - (RULE-WIDTH * i + RULE-WIDTH)) (drop (RULE-WIDTH * i + RULE-WIDTH) m))
+  next-bytes area h = rw (times-more RULE-WIDTH i) at (slot-bytes n (i + 1) m area h)
 
   module _ (h : Risen n m i) where
     -- no rule, or one
@@ -66,15 +67,15 @@ module _ (n i : ℕ) (m : List ℕ) where
 
     -- o is the order of the filters in the two slots that were lent
     module _ (o : Ordering) (inside : i + 1 < n)
-        (o-is : o ≡ compareFilters (filterOf (take (24 * i + 24 - 24 * i) (drop (24 * i) m))) (filterOf (take (24 * i + 24 + 24 - (24 * i + 24)) (drop (24 * i + 24) m)))) where
+        (o-is : o ≡ compareFilters (filterOf (take (RULE-WIDTH * i + RULE-WIDTH - RULE-WIDTH * i) (drop (RULE-WIDTH * i) m))) (filterOf (take (RULE-WIDTH * i + RULE-WIDTH + RULE-WIDTH - (RULE-WIDTH * i + RULE-WIDTH)) (drop (RULE-WIDTH * i + RULE-WIDTH) m)))) where
       risen-step : rising (rulesOf n m) ≡ (isLt o && rising (rulesFrom n (i + 1) m))
       risen-step =
-          let r : Rule = ruleOf (take 24 (drop (24 * i) m)) in
-          let s : Rule = ruleOf (take 24 (drop (24 * (i + 1)) m)) in
-          let a : 24 * i + 24 - 24 * i ≡ 24 = omega arith in
-          let b : 24 * i + 24 + 24 - (24 * i + 24) ≡ 24 = omega arith in
+          let r : Rule = ruleOf (take RULE-WIDTH (drop (RULE-WIDTH * i) m)) in
+          let s : Rule = ruleOf (take RULE-WIDTH (drop (RULE-WIDTH * (i + 1)) m)) in
+          let a : RULE-WIDTH * i + RULE-WIDTH - RULE-WIDTH * i ≡ RULE-WIDTH = omega arith in
+          let b : RULE-WIDTH * i + RULE-WIDTH + RULE-WIDTH - (RULE-WIDTH * i + RULE-WIDTH) ≡ RULE-WIDTH = omega arith in
           let c : o ≡ compareFilters (filterIn r) (filterIn s) =
-          o-is ∙ rw (a, b, filter-in (take 24 (drop (24 * i) m)), filter-in (take 24 (drop (24 * (i + 1)) m)), times-more 24 i) in
+          o-is ∙ rw (a, b, filter-in (take RULE-WIDTH (drop (RULE-WIDTH * i) m)), filter-in (take RULE-WIDTH (drop (RULE-WIDTH * (i + 1)) m)), times-more RULE-WIDTH i) in
           let next : beforeNext r (rulesFrom n (i + 1) m) ≡ isLt o = ap (beforeNext r) (rules-more n (i + 1) m inside) ∙ ap isLt (sym c) in
           h ∙ ap rising (rules-more n i m (omega arith)) ∙ ap (λ (b : Bool). b && rising (rulesFrom n (i + 1) m)) next
 

@@ -8,6 +8,7 @@ use native.Mathlib.Omega.{arith}
 use lib.ListN.{length, take, drop, getD, length-drop, take-append-drop}
 use lib.Seq.{drop-at, drop-drop, length-take-le}
 use lib.Dec.{T, eqb→eq, le→leb}
+use Rattle.meaning.specs.Sizes.{SET-NUMBER-BYTES, CONTENT-BYTES, PREFIX-AT, PREFIX-DIGITS-AT, LENGTH-AT, FILTER-BYTES, RULE-BODY, CONTENT-AT, COUNT-AT, SET-WIDTH, RULE-WIDTH}
 use Rattle.meaning.specs.Basics.{all, isZero, word, part}
 use Rattle.meaning.specs.Filters.{Filter, filterOf, filterInRange}
 use Rattle.meaning.specs.Rules.{Rule}
@@ -28,12 +29,12 @@ use Rattle.examiner.proofs.SetSlots.{slot-behind, slot-empty, slot-held
 
 -- A SLOT THAT PASSES
 
-module _ (room : ℕ) (sets s : List ℕ) (size : length s ≡ 24) (t : T (ruleTest room sets s)) where
+module _ (room : ℕ) (sets s : List ℕ) (size : length s ≡ RULE-WIDTH) (t : T (ruleTest room sets s)) where
   pub rule-code : T (codePasses ((ruleOf s) .code))
   unfolding ruleTest codePasses ruleOf
   rule-code =
-      let sized-19 : T (sized 19 (take 19 s)) = rw (length-take-le 19 s (omega arith)) tt in
-      and-both (sized 19 (take 19 s)) (filterInRange (take 19 s)) sized-19 (all-at 0 (ruleTests room sets s) t)
+      let sized-code : T (sized FILTER-BYTES (take FILTER-BYTES s)) = rw (length-take-le FILTER-BYTES s (omega arith)) tt in
+      and-both (sized FILTER-BYTES (take FILTER-BYTES s)) (filterInRange (take FILTER-BYTES s)) sized-code (all-at 0 (ruleTests room sets s) t)
 
   pub rule-fits : T (setFits room sets (ruleOf s))
   unfolding ruleTest
@@ -43,40 +44,40 @@ module _ (room : ℕ) (sets s : List ℕ) (size : length s ≡ 24) (t : T (ruleT
   unfolding ruleTest ruleOf
   rule-bytes = range-bytes s (omega arith) (all-at 0 (ruleTests room sets s) t)
 
-  unused : drop 21 s ≡ zeros 3
+  unused : drop RULE-BODY s ≡ zeros 3
   unfolding ruleTest
-  unused = last-zeros 21 3 s size (all-at 1 (ruleTests room sets s) t)
+  unused = last-zeros RULE-BODY 3 s size (all-at 1 (ruleTests room sets s) t)
 
   pub rule-image : Bytes s → ruleImage (ruleOf s) ≡ s
   unfolding ruleImage ruleOf
   rule-image h =
-      let behind : wordBytes (word s 19) ++ zeros 3 ≡ drop 19 s = ap (λ (l : List ℕ). wordBytes (word s 19) ++ l) (sym unused) ∙ word-again s 19 (omega arith) h in
-      ap (λ (l : List ℕ). take 19 s ++ l) behind ∙ take-append-drop 19 s
+      let behind : wordBytes (word s FILTER-BYTES) ++ zeros 3 ≡ drop FILTER-BYTES s = ap (λ (l : List ℕ). wordBytes (word s FILTER-BYTES) ++ l) (sym unused) ∙ word-again s FILTER-BYTES (omega arith) h in
+      ap (λ (l : List ℕ). take FILTER-BYTES s ++ l) behind ∙ take-append-drop FILTER-BYTES s
 
 -- slots that pass have prefixes of at most 16 digits
-pub prefixes-fit : (room : ℕ) (sets : List ℕ) (ss : List (List ℕ)) → Wide 24 ss → T (all (ruleTest room sets) ss) → T (all prefixFits ss)
+pub prefixes-fit : (room : ℕ) (sets : List ℕ) (ss : List (List ℕ)) → Wide RULE-WIDTH ss → T (all (ruleTest room sets) ss) → T (all prefixFits ss)
 prefixes-fit room sets [] w t = tt
 prefixes-fit room sets (s ∷ ss) w t =
     let here : T (ruleTest room sets s) = and-left (ruleTest room sets s) (all (ruleTest room sets) ss) t in
     let later : T (all (ruleTest room sets) ss) = and-right (ruleTest room sets s) (all (ruleTest room sets) ss) t in
-    and-both (prefixFits s) (all prefixFits ss) (le→leb (getD s 1 0) 16 (rule-bytes room sets s (w .0) here .prefix)) (prefixes-fit room sets ss (w .1) later)
+    and-both (prefixFits s) (all prefixFits ss) (le→leb (getD s PREFIX-AT 0) 16 (rule-bytes room sets s (w .0) here .prefix)) (prefixes-fit room sets ss (w .1) later)
 
 -- AN IMAGE
 
 module _ (room : ℕ) (sets : List ℕ) (r : Rule) (c : T (codePasses (r .code))) (t : T (setFits room sets r)) where
-  code-size : length (r .code) ≡ 19
+  code-size : length (r .code) ≡ FILTER-BYTES
   unfolding codePasses
-  code-size = eqb→eq (length (r .code)) 19 (and-left (sized 19 (r .code)) (filterInRange (r .code)) c)
+  code-size = eqb→eq (length (r .code)) FILTER-BYTES (and-left (sized FILTER-BYTES (r .code)) (filterInRange (r .code)) c)
 
   code-range : T (filterInRange ((ruleOf (ruleImage r)) .code))
   unfolding codePasses
-  code-range = rw (rule-back r c) (and-right (sized 19 (r .code)) (filterInRange (r .code)) c)
+  code-range = rw (rule-back r c) (and-right (sized FILTER-BYTES (r .code)) (filterInRange (r .code)) c)
 
-  none-behind : T (all isZero (part 21 3 (ruleImage r)))
+  none-behind : T (all isZero (part RULE-BODY 3 (ruleImage r)))
   unfolding ruleImage zeros
   none-behind =
       let x : List ℕ = r .code ++ (wordBytes (r .set) ++ zeros 3) in
-      let three : drop 21 x ≡ zeros 3 = sym (drop-drop 2 19 x) ∙ ap (drop 2) (drop-at (r .code) (wordBytes (r .set) ++ zeros 3) 19 code-size) in
+      let three : drop RULE-BODY x ≡ zeros 3 = sym (drop-drop SET-NUMBER-BYTES FILTER-BYTES x) ∙ ap (drop SET-NUMBER-BYTES) (drop-at (r .code) (wordBytes (r .set) ++ zeros 3) FILTER-BYTES code-size) in
       rw three tt
 
   pub rule-passes : T (ruleTest room sets (ruleImage r))
@@ -85,7 +86,7 @@ module _ (room : ℕ) (sets : List ℕ) (r : Rule) (c : T (codePasses (r .code))
 
 -- THE SET THAT A RULE NAMES, by what was read: its number n, and the first byte of its slot
 
-module _ (room n : ℕ) (sets s : List ℕ) (n-is : n ≡ word s 19) where
+module _ (room n : ℕ) (sets s : List ℕ) (n-is : n ≡ word s FILTER-BYTES) where
   named : (o : Option (List ℕ)) → getD (slotsOf room sets) n none ≡ o → setFits room sets (ruleOf s) ≡ fitsHeld (filterOf s) o
   unfolding setFits ruleOf
   named o e = rw (← n-is, e) (ap (λ (f : Filter). fitsHeld f o) (filter-in s))
@@ -93,17 +94,17 @@ module _ (room n : ℕ) (sets s : List ℕ) (n-is : n ≡ word s 19) where
   pub no-set : room ≤ n → setFits room sets (ruleOf s) ≡ false
   no-set h = named none (slot-behind room n sets h)
 
-  pub empty-set : n < room → getD sets (48 * n) 0 ≡ 0 → setFits room sets (ruleOf s) ≡ false
+  pub empty-set : n < room → getD sets (SET-WIDTH * n) 0 ≡ 0 → setFits room sets (ruleOf s) ≡ false
   empty-set h e = named none (slot-empty room n sets h e)
 
   -- p and l are the lengths of the prefix and of the filter as read, b what the part lent gave
-  pub held-set : (p l : ℕ) (b : Bool) → n < room → (getD sets (48 * n) 0 ≡ 0 → ⊥) → FilterBytes s → p ≡ getD s 1 0 → l ≡ getD s 18 0
-      → b ≡ casFit p l (actionsOf (take (48 * n + 46 - (48 * n + 1)) (drop (48 * n + 1) sets)) .cas) → b ≡ setFits room sets (ruleOf s)
+  pub held-set : (p l : ℕ) (b : Bool) → n < room → (getD sets (SET-WIDTH * n) 0 ≡ 0 → ⊥) → FilterBytes s → p ≡ getD s PREFIX-AT 0 → l ≡ getD s LENGTH-AT 0
+      → b ≡ casFit p l (actionsOf (take (SET-WIDTH * n + COUNT-AT - (SET-WIDTH * n + CONTENT-AT)) (drop (SET-WIDTH * n + CONTENT-AT) sets)) .cas) → b ≡ setFits room sets (ruleOf s)
   unfolding fit filterOf
   held-set p l b h e bytes p-is l-is b-is =
-      let k : 48 * n + 46 - (48 * n + 1) ≡ 45 = omega arith in
-      let content : List ℕ = take 45 (drop (48 * n + 1) sets) in
-      let long : getD s 1 0 ≤ length (drop 2 s) = rw (length-drop 2 s) (omega (arith, bytes .whole, bytes .prefix)) in
-      let size : length (filterOf s .prefix) ≡ p = ap length (prefix-is s bytes) ∙ length-take-le (getD s 1 0) (drop 2 s) long ∙ sym p-is in
+      let k : SET-WIDTH * n + COUNT-AT - (SET-WIDTH * n + CONTENT-AT) ≡ CONTENT-BYTES = omega arith in
+      let content : List ℕ = take CONTENT-BYTES (drop (SET-WIDTH * n + CONTENT-AT) sets) in
+      let long : getD s PREFIX-AT 0 ≤ length (drop PREFIX-DIGITS-AT s) = rw (length-drop PREFIX-DIGITS-AT s) (omega (arith, bytes .whole, bytes .prefix)) in
+      let size : length (filterOf s .prefix) ≡ p = ap length (prefix-is s bytes) ∙ length-take-le (getD s PREFIX-AT 0) (drop PREFIX-DIGITS-AT s) long ∙ sym p-is in
       let fits : fit (filterOf s) (actionsOf content) ≡ casFit p l (actionsOf content .cas) = ap₂ (λ (x y : ℕ). casFit x y (actionsOf content .cas)) size (sym l-is) in
       b-is ∙ rw k (sym (named (some content) (slot-held room n sets h e) ∙ fits))

@@ -2,6 +2,7 @@
 ghost use mathlib.Core.Path.{_≡_};
 ghost use Prim.Native.Nat.{_+_, _*_, _≤_};
 ghost use lib.ListN.{length};
+ghost use Rattle.meaning.specs.Sizes.{SETS-AT, SET-WIDTH, RULE-WIDTH};
 ghost use Rattle.meaning.specs.Basics.{all, within};
 ghost use Rattle.meaning.specs.Settings.{roomsInRange, settingsInRange};
 ghost use Rattle.buffer.specs.Slots.{slots};
@@ -11,57 +12,69 @@ ghost use Rattle.blocks.specs.Places.{maskTable};
 ghost use Rattle.examiner.specs.Examined.{fixedPass, openingPasses, sizesPass, headerPasses, slotTest, setFits, ruleTest};
 ghost use Rattle.examiner.specs.Examined.{rising, areasPass, setArea, ruleArea, Areas, Sized};
 use meaning::Order;
-use plan::HEADER_BYTES;
-use plan::RULE_BYTES;
-use plan::SET_BYTES;
+use meaning::sizes::CONTENT_AT;
+use meaning::sizes::COUNT_AT;
+use meaning::sizes::LENGTH_AT;
+use meaning::sizes::PREFIX_AT;
+use meaning::sizes::ROOMS_AT;
+use meaning::sizes::ROOMS_END;
+use meaning::sizes::RULE_BODY;
+use meaning::sizes::RULE_WIDTH;
+use meaning::sizes::RULES_AT;
+use meaning::sizes::SET_AT;
+use meaning::sizes::SET_WIDTH;
+use meaning::sizes::SETS_AT;
+use meaning::sizes::SETTINGS_AT;
+use meaning::sizes::SETTINGS_END;
+use plan::MARK;
 
-// The mark of this build, `NPP1`.
-const MARK: [u8; 4] = [78, 80, 80, 49];
+// The unused bytes behind the count of rules.
+const UNUSED_AT: usize = RULES_AT + 2;
 
-// Whether the memory has the mark, and 0 in the header's unused bytes.
+// Whether the memory has the mark, and 0 in all unused bytes before the sets.
 fn fixed_pass(memory: &[u8]) -> bool
-    requires { ⌜ 64 ≤ length (now memory) ⌝ }
+    requires { ⌜ SETS-AT ≤ length (now memory) ⌝ }
     ensures { λ r. ⌜ r ≡ fixedPass (now (memory .entry)) ⌝ }
 {
     if !filter::begins_with(&MARK, memory) {
         return false;
     }
-    if !buffer::all_zero(&memory[6..8]) {
+    if !buffer::all_zero(&memory[UNUSED_AT..ROOMS_AT]) {
         return false;
     }
-    buffer::all_zero(&memory[48..64])
+    buffer::all_zero(&memory[SETTINGS_END..SETS_AT])
 }
 
 // Whether the rooms and settings in the header are in range.
 fn opening_passes(memory: &[u8]) -> bool
-    requires { ⌜ 64 ≤ length (now memory) ⌝ }
+    requires { ⌜ SETS-AT ≤ length (now memory) ⌝ }
     ensures { λ r. ⌜ r ≡ openingPasses (now (memory .entry)) ⌝ }
 {
-    if !settings::rooms_in_range(&memory[8..12]) {
+    if !settings::rooms_in_range(&memory[ROOMS_AT..ROOMS_END]) {
         return false;
     }
-    settings::settings_in_range(&memory[12..48])
+    settings::settings_in_range(&memory[SETTINGS_AT..SETTINGS_END])
 }
 
 // Whether the rules have room, and the memory has the size that the rooms need.
 fn sizes_pass(memory: &[u8]) -> bool
-    requires { ⌜ 64 ≤ length (now memory) ⌝ }
+    requires { ⌜ SETS-AT ≤ length (now memory) ⌝ }
     ensures { λ r. ⌜ r ≡ sizesPass (now (memory .entry)) ⌝ }
 {
-    let rooms = &memory[8..12];
+    let rooms = &memory[ROOMS_AT..ROOMS_END];
     let sets = buffer::word(rooms, 0);
     let rules = buffer::word(rooms, 2);
-    if rules < buffer::word(memory, 4) {
+    if rules < buffer::word(memory, RULES_AT) {
         return false;
     }
-    HEADER_BYTES + SET_BYTES * sets + RULE_BYTES * rules <= memory.len()
+    SETS_AT + SET_WIDTH * sets + RULE_WIDTH * rules <= memory.len()
 }
 
 // Whether the memory begins with a header of this build, and has the size that it says.
 fn header_passes(memory: &[u8]) -> bool
     ensures { λ r. ⌜ r ≡ headerPasses (now (memory .entry)) ⌝ }
 {
-    if memory.len() < HEADER_BYTES {
+    if memory.len() < SETS_AT {
         return false;
     }
     if !fixed_pass(memory) {
@@ -75,7 +88,7 @@ fn header_passes(memory: &[u8]) -> bool
 
 // Whether a set slot is all 0, or held with a content that passes and nothing behind it.
 fn slot_passes(slot: &[u8]) -> bool
-    requires { ⌜ length (now slot) ≡ 48 ⌝ }
+    requires { ⌜ length (now slot) ≡ SET-WIDTH ⌝ }
     ensures { λ r. ⌜ r ≡ slotTest (now (slot .entry)) ⌝ }
 {
     let held = slot[0];
@@ -85,24 +98,24 @@ fn slot_passes(slot: &[u8]) -> bool
     if 1 < held {
         return false;
     }
-    if !ranges::content_in_range(&slot[1..46]) {
+    if !ranges::content_in_range(&slot[CONTENT_AT..COUNT_AT]) {
         return false;
     }
-    if !groups::groups_hold(&slot[1..46]) {
+    if !groups::groups_hold(&slot[CONTENT_AT..COUNT_AT]) {
         return false;
     }
-    buffer::all_zero(&slot[46..48])
+    buffer::all_zero(&slot[COUNT_AT..SET_WIDTH])
 }
 
 // Whether each of the set slots passes.
 fn slots_pass(sets: &[u8], room: usize) -> bool
-    requires { ⌜ 48 * room ≤ length (now sets) ⌝ }
-    ensures { λ r. ⌜ r ≡ all slotTest (slots 48 room (now (sets .entry))) ⌝ }
+    requires { ⌜ SET-WIDTH * room ≤ length (now sets) ⌝ }
+    ensures { λ r. ⌜ r ≡ all slotTest (slots SET-WIDTH room (now (sets .entry))) ⌝ }
 {
     let mut i = 0;
     while i < room {
-        let a = SET_BYTES * i;
-        let e = a + SET_BYTES;
+        let a = SET_WIDTH * i;
+        let e = a + SET_WIDTH;
         if !slot_passes(&sets[a..e]) {
             return false;
         }
@@ -113,35 +126,35 @@ fn slots_pass(sets: &[u8], room: usize) -> bool
 
 // Whether the set that a rule names is held and fits the rule's filter.
 fn fits_held(slot: &[u8], sets: &[u8], room: usize) -> bool
-    requires { ⌜ (length (now slot) ≡ 24) × (48 * room ≤ length (now sets)) ⌝ }
+    requires { ⌜ (length (now slot) ≡ RULE-WIDTH) × (SET-WIDTH * room ≤ length (now sets)) ⌝ }
     requires { ⌜ FilterBytes (now slot) ⌝ }
     ensures { λ r. ⌜ r ≡ setFits room (now (sets .entry)) (ruleOf (now (slot .entry))) ⌝ }
 {
-    let n = buffer::word(slot, 19);
+    let n = buffer::word(slot, SET_AT);
     if room <= n {
         return false;
     }
-    let a = SET_BYTES * n;
+    let a = SET_WIDTH * n;
     if sets[a] == 0 {
         return false;
     }
-    let prefix = buffer::wide(slot[1]);
-    let len = buffer::wide(slot[18]);
-    let b = a + 1;
-    let e = a + 46;
+    let prefix = buffer::wide(slot[PREFIX_AT]);
+    let len = buffer::wide(slot[LENGTH_AT]);
+    let b = a + CONTENT_AT;
+    let e = a + COUNT_AT;
     actions::fits_content(prefix, len, &sets[b..e])
 }
 
 // Whether a rule slot that is held has a filter in range, nothing behind its set number, and a set that is held and fits it.
 fn rule_passes(slot: &[u8], sets: &[u8], room: usize, masks: &[u8]) -> bool
-    requires { ⌜ (length (now slot) ≡ 24) × (48 * room ≤ length (now sets)) ⌝ }
+    requires { ⌜ (length (now slot) ≡ RULE-WIDTH) × (SET-WIDTH * room ≤ length (now sets)) ⌝ }
     requires { ⌜ now masks ≡ maskTable ⌝ }
     ensures { λ r. ⌜ r ≡ ruleTest room (now (sets .entry)) (now (slot .entry)) ⌝ }
 {
     if !filter::filter_in_range_by(slot, masks) {
         return false;
     }
-    if !buffer::all_zero(&slot[21..24]) {
+    if !buffer::all_zero(&slot[RULE_BODY..RULE_WIDTH]) {
         return false;
     }
     fits_held(slot, sets, room)
@@ -151,12 +164,12 @@ fn rule_passes(slot: &[u8], sets: &[u8], room: usize, masks: &[u8]) -> bool
 fn rules_pass_by(sets: &[u8], room: usize, rules: &[u8], count: usize, masks: &[u8]) -> bool
     requires { ⌜ Areas room (now sets) count (now rules) ⌝ }
     requires { ⌜ now masks ≡ maskTable ⌝ }
-    ensures { λ r. ⌜ r ≡ all (ruleTest room (now (sets .entry))) (slots 24 count (now (rules .entry))) ⌝ }
+    ensures { λ r. ⌜ r ≡ all (ruleTest room (now (sets .entry))) (slots RULE-WIDTH count (now (rules .entry))) ⌝ }
 {
     let mut i = 0;
     while i < count {
-        let a = RULE_BYTES * i;
-        let e = a + RULE_BYTES;
+        let a = RULE_WIDTH * i;
+        let e = a + RULE_WIDTH;
         if !rule_passes(&rules[a..e], sets, room, masks) {
             return false;
         }
@@ -167,7 +180,7 @@ fn rules_pass_by(sets: &[u8], room: usize, rules: &[u8], count: usize, masks: &[
 
 fn rules_pass(sets: &[u8], room: usize, rules: &[u8], count: usize) -> bool
     requires { ⌜ Areas room (now sets) count (now rules) ⌝ }
-    ensures { λ r. ⌜ r ≡ all (ruleTest room (now (sets .entry))) (slots 24 count (now (rules .entry))) ⌝ }
+    ensures { λ r. ⌜ r ≡ all (ruleTest room (now (sets .entry))) (slots RULE-WIDTH count (now (rules .entry))) ⌝ }
 {
     let mut masks = [0xffu8; 64];
     blocks::mask_digits(&mut masks);
@@ -181,9 +194,9 @@ fn rules_rise(rules: &[u8], count: usize) -> bool
 {
     let mut i: usize = 0;
     while i + 1 < count {
-        let a = RULE_BYTES * i;
-        let b = a + RULE_BYTES;
-        let e = b + RULE_BYTES;
+        let a = RULE_WIDTH * i;
+        let b = a + RULE_WIDTH;
+        let e = b + RULE_WIDTH;
         match filter::order_filters(&rules[a..b], &rules[b..e]) {
             Order::Before => {}
             Order::Same => return false,
@@ -208,7 +221,7 @@ fn areas_pass(sets: &[u8], room: usize, rules: &[u8], count: usize) -> bool
     if !rules_rise(rules, count) {
         return false;
     }
-    let free = RULE_BYTES * count;
+    let free = RULE_WIDTH * count;
     buffer::all_zero(&rules[free..])
 }
 
@@ -217,9 +230,9 @@ fn body_passes(memory: &[u8], room: usize, rules: usize, count: usize) -> bool
     requires { ⌜ Sized room rules count (now memory) ⌝ }
     ensures { λ r. ⌜ r ≡ areasPass room (setArea room (now (memory .entry))) count (ruleArea room rules (now (memory .entry))) ⌝ }
 {
-    let a = HEADER_BYTES + SET_BYTES * room;
-    let e = a + RULE_BYTES * rules;
-    areas_pass(&memory[HEADER_BYTES..a], room, &memory[a..e], count)
+    let a = SETS_AT + SET_WIDTH * room;
+    let e = a + RULE_WIDTH * rules;
+    areas_pass(&memory[SETS_AT..a], room, &memory[a..e], count)
 }
 
 // Whether the memory is a sound plan of this build.
@@ -229,8 +242,8 @@ pub fn sound(memory: &[u8]) -> bool
     if !header_passes(memory) {
         return false;
     }
-    let rooms = &memory[8..12];
+    let rooms = &memory[ROOMS_AT..ROOMS_END];
     let sets = buffer::word(rooms, 0);
     let rules = buffer::word(rooms, 2);
-    body_passes(memory, sets, rules, buffer::word(memory, 4))
+    body_passes(memory, sets, rules, buffer::word(memory, RULES_AT))
 }

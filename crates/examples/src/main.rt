@@ -2,6 +2,7 @@
 // the lines of its records, by the same loop as the program's.
 ghost use Prim.Native.Nat.{_≤_};
 use libc::STDOUT_FILENO;
+use meaning::sizes::RUN_BYTES;
 
 // The digit of a number for its ones, its tens or its hundreds.
 fn digit(n: usize, unit: usize) -> u8
@@ -12,7 +13,7 @@ fn digit(n: usize, unit: usize) -> u8
 
 // The lines of the records that a descriptor gives.
 fn run(from: i32) {
-    let mut plan = [0u8; 15424];
+    let mut plan = [0u8; RUN_BYTES];
     let mut input = io::large_buffer();
     let mut output = io::large_buffer();
     stream::copy(from, STDOUT_FILENO, &mut plan, &mut input, &mut output);

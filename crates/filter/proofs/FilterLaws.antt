@@ -10,6 +10,7 @@ use lib.ListN.{length, getD, take, drop, drop-of-length-le, length-drop}
 use lib.Seq.{drop-cons, getD-take, length-take-le}
 use lib.Dec.{T, eqb, leb, leb→le, lit<, lit≤}
 use borrow.Author.Tests.{eq-eqb, ne-eqb, le-leb, lt-leb}
+use Rattle.meaning.specs.Sizes.{CLASS-AT, PREFIX-AT, PREFIX-DIGITS-AT, LENGTH-AT, FILTER-BYTES}
 use Rattle.meaning.specs.Basics.{if_then_else_, all, allOf, within, isZero, isDigit, digitsOf, digitsInRange, beginsWith}
 use Rattle.meaning.specs.Settings.{isClass}
 use Rattle.meaning.specs.Filters.{Filter, filterOf, filterInRange, lengthFits, fitsNumber, stated, rank}
@@ -22,30 +23,30 @@ use Rattle.meaning.proofs.Tests.{and-left, and-right, all-at, all-false}
 use Rattle.buffer.proofs.DigitLaws.{digits-at}
 use Rattle.buffer.proofs.ListLaws.{part-part}
 use Rattle.buffer.proofs.Passing.{and-true, and-false}
-use Rattle.filter.specs.Slots.{FILTER-WIDTH, FilterBytes, prefixFits}
+use Rattle.filter.specs.Slots.{FilterBytes, prefixFits}
 
 -- A FILTER READS ITS OWN BYTES ALONE
 
-pub filter-part : (s : List ℕ) → filterOf (take FILTER-WIDTH s) ≡ filterOf s
+pub filter-part : (s : List ℕ) → filterOf (take FILTER-BYTES s) ≡ filterOf s
 unfolding filterOf
 filter-part s = λ i. record {
-  class = getD-take FILTER-WIDTH s 0 0 (lit< tt) i;
-  prefix = digitsOf (part-part 1 17 FILTER-WIDTH s (lit≤ tt) i);
-  len = getD-take FILTER-WIDTH s 18 0 (lit< tt) i;
+  class = getD-take FILTER-BYTES s CLASS-AT 0 (lit< tt) i;
+  prefix = digitsOf (part-part PREFIX-AT 17 FILTER-BYTES s (lit≤ tt) i);
+  len = getD-take FILTER-BYTES s LENGTH-AT 0 (lit< tt) i;
 }
 
-pub range-part : (s : List ℕ) → filterInRange (take FILTER-WIDTH s) ≡ filterInRange s
+pub range-part : (s : List ℕ) → filterInRange (take FILTER-BYTES s) ≡ filterInRange s
 unfolding filterInRange
 range-part s =
-    let a : _≡_ {A = ℕ} (getD (take FILTER-WIDTH s) 0 0) (getD s 0 0) = getD-take FILTER-WIDTH s 0 0 (lit< tt) in
-    let b : _≡_ {A = ℕ} (getD (take FILTER-WIDTH s) 1 0) (getD s 1 0) = getD-take FILTER-WIDTH s 1 0 (lit< tt) in
-    let c : _≡_ {A = ℕ} (getD (take FILTER-WIDTH s) 18 0) (getD s 18 0) = getD-take FILTER-WIDTH s 18 0 (lit< tt) in
-    let p : take 17 (drop 1 (take FILTER-WIDTH s)) ≡ take 17 (drop 1 s) = part-part 1 17 FILTER-WIDTH s (lit≤ tt) in
+    let a : _≡_ {A = ℕ} (getD (take FILTER-BYTES s) CLASS-AT 0) (getD s CLASS-AT 0) = getD-take FILTER-BYTES s CLASS-AT 0 (lit< tt) in
+    let b : _≡_ {A = ℕ} (getD (take FILTER-BYTES s) PREFIX-AT 0) (getD s PREFIX-AT 0) = getD-take FILTER-BYTES s PREFIX-AT 0 (lit< tt) in
+    let c : _≡_ {A = ℕ} (getD (take FILTER-BYTES s) LENGTH-AT 0) (getD s LENGTH-AT 0) = getD-take FILTER-BYTES s LENGTH-AT 0 (lit< tt) in
+    let p : take 17 (drop PREFIX-AT (take FILTER-BYTES s)) ≡ take 17 (drop PREFIX-AT s) = part-part PREFIX-AT 17 FILTER-BYTES s (lit≤ tt) in
     λ i. allOf (isClass (a i) ∷ digitsInRange 0 16 (p i) ∷ leb (c i) 32 ∷ (isZero (c i) || leb (b i) (c i)) ∷ [])
 
-pub prefix-is : (s : List ℕ) → FilterBytes s → filterOf s .prefix ≡ take (getD s 1 0) (drop 2 s)
+pub prefix-is : (s : List ℕ) → FilterBytes s → filterOf s .prefix ≡ take (getD s PREFIX-AT 0) (drop PREFIX-DIGITS-AT s)
 unfolding filterOf
-prefix-is s h = digits-at 1 16 s (omega (arith, h .whole)) (h .prefix)
+prefix-is s h = digits-at PREFIX-AT 16 s (omega (arith, h .whole)) (h .prefix)
 
 -- RANGE
 
@@ -66,47 +67,47 @@ class-unknown b e = go (isClass b) refl
 module _ (s : List ℕ) where
   abbrev tests : List Bool
   tests =
-      isClass (getD s 0 0) ∷ digitsInRange 0 16 (take 17 (drop 1 s)) ∷ leb (getD s 18 0) 32
-      ∷ (isZero (getD s 18 0) || leb (getD s 1 0) (getD s 18 0)) ∷ []
+      isClass (getD s CLASS-AT 0) ∷ digitsInRange 0 16 (take 17 (drop PREFIX-AT s)) ∷ leb (getD s LENGTH-AT 0) 32
+      ∷ (isZero (getD s LENGTH-AT 0) || leb (getD s PREFIX-AT 0) (getD s LENGTH-AT 0)) ∷ []
 
-  range-tests : filterInRange (take FILTER-WIDTH s) ≡ allOf tests
+  range-tests : filterInRange (take FILTER-BYTES s) ≡ allOf tests
   unfolding filterInRange
   range-tests = range-part s
 
-  pub range-class : (k : ClassOf) → k ≡ classOf (getD s 0 0) → k ≡ Unknown → filterInRange (take FILTER-WIDTH s) ≡ false
-  range-class k k-is e = range-tests ∙ all-false 0 tests (class-unknown (getD s 0 0) (sym k-is ∙ e))
+  pub range-class : (k : ClassOf) → k ≡ classOf (getD s CLASS-AT 0) → k ≡ Unknown → filterInRange (take FILTER-BYTES s) ≡ false
+  range-class k k-is e = range-tests ∙ all-false 0 tests (class-unknown (getD s CLASS-AT 0) (sym k-is ∙ e))
 
-  module _ (b : Bool) (b-is : b ≡ digitsInRange 0 16 (take (18 - 1) (drop 1 s))) where
-    pub range-prefix : b ≡ false → filterInRange (take FILTER-WIDTH s) ≡ false
+  module _ (b : Bool) (b-is : b ≡ digitsInRange 0 16 (take (LENGTH-AT - PREFIX-AT) (drop PREFIX-AT s))) where
+    pub range-prefix : b ≡ false → filterInRange (take FILTER-BYTES s) ≡ false
     range-prefix e = range-tests ∙ all-false 1 tests (sym b-is ∙ e)
 
-    pub range-long : 32 < getD s 18 0 → filterInRange (take FILTER-WIDTH s) ≡ false
-    range-long h = range-tests ∙ all-false 2 tests (lt-leb (getD s 18 0) 32 h)
+    pub range-long : 32 < getD s LENGTH-AT 0 → filterInRange (take FILTER-BYTES s) ≡ false
+    range-long h = range-tests ∙ all-false 2 tests (lt-leb (getD s LENGTH-AT 0) 32 h)
 
-    module _ (k : ClassOf) (c : Class) (k-is : k ≡ classOf (getD s 0 0)) (known : k ≡ Known c) (e : b ≡ true) (short : getD s 18 0 ≤ 32) where
-      last : filterInRange (take FILTER-WIDTH s) ≡ ((isZero (getD s 18 0) || leb (getD s 1 0) (getD s 18 0)) && true)
-      last = range-tests ∙ rw (class-known (getD s 0 0) c (sym k-is ∙ known), ← b-is, e, le-leb (getD s 18 0) 32 short)
+    module _ (k : ClassOf) (c : Class) (k-is : k ≡ classOf (getD s CLASS-AT 0)) (known : k ≡ Known c) (e : b ≡ true) (short : getD s LENGTH-AT 0 ≤ 32) where
+      last : filterInRange (take FILTER-BYTES s) ≡ ((isZero (getD s LENGTH-AT 0) || leb (getD s PREFIX-AT 0) (getD s LENGTH-AT 0)) && true)
+      last = range-tests ∙ rw (class-known (getD s CLASS-AT 0) c (sym k-is ∙ known), ← b-is, e, le-leb (getD s LENGTH-AT 0) 32 short)
 
-      pub range-any : getD s 18 0 ≡ 0 → filterInRange (take FILTER-WIDTH s) ≡ true
-      range-any z = last ∙ rw (eq-eqb (getD s 18 0) 0 z)
+      pub range-any : getD s LENGTH-AT 0 ≡ 0 → filterInRange (take FILTER-BYTES s) ≡ true
+      range-any z = last ∙ rw (eq-eqb (getD s LENGTH-AT 0) 0 z)
 
-      pub range-stated : (getD s 18 0 ≡ 0 → ⊥) → filterInRange (take FILTER-WIDTH s) ≡ leb (getD s 1 0) (getD s 18 0)
-      range-stated z = last ∙ rw (ne-eqb (getD s 18 0) 0 z) (and-true (leb (getD s 1 0) (getD s 18 0)))
+      pub range-stated : (getD s LENGTH-AT 0 ≡ 0 → ⊥) → filterInRange (take FILTER-BYTES s) ≡ leb (getD s PREFIX-AT 0) (getD s LENGTH-AT 0)
+      range-stated z = last ∙ rw (ne-eqb (getD s LENGTH-AT 0) 0 z) (and-true (leb (getD s PREFIX-AT 0) (getD s LENGTH-AT 0)))
 
 -- a filter in range has a prefix of at most 16 digits
-pub range-prefix-fits : (s : List ℕ) → T (filterInRange (take FILTER-WIDTH s)) → T (prefixFits s)
+pub range-prefix-fits : (s : List ℕ) → T (filterInRange (take FILTER-BYTES s)) → T (prefixFits s)
 range-prefix-fits s t =
     let u : T (allOf (tests s)) = rw (range-tests s) at t in
     go s (all-at 1 (tests s) u)
   where
-    go : (s : List ℕ) → T (digitsInRange 0 16 (take 17 (drop 1 s))) → T (prefixFits s)
+    go : (s : List ℕ) → T (digitsInRange 0 16 (take 17 (drop PREFIX-AT s))) → T (prefixFits s)
     go [] t = absurd t
     go (x ∷ []) t = absurd t
     go (x ∷ n ∷ ds) t =
         and-right (leb 0 n) (leb n 16) (and-left (within 0 16 n) (all isDigit (take n (take 16 ds)) && all isZero (drop n (take 16 ds))) t)
 
-pub range-bytes : (s : List ℕ) → FILTER-WIDTH ≤ length s → T (filterInRange (take FILTER-WIDTH s)) → FilterBytes s
-range-bytes s h t = record { whole = h; prefix = leb→le (getD s 1 0) 16 (range-prefix-fits s t) }
+pub range-bytes : (s : List ℕ) → FILTER-BYTES ≤ length s → T (filterInRange (take FILTER-BYTES s)) → FilterBytes s
+range-bytes s h t = record { whole = h; prefix = leb→le (getD s PREFIX-AT 0) 16 (range-prefix-fits s t) }
 
 -- BEGINNING WITH A PREFIX: what is left to compare decides
 
@@ -134,27 +135,27 @@ lengthFits-stated : (l n : ℕ) → (l ≡ 0 → ⊥) → lengthFits l n ≡ eqb
 lengthFits-stated zero n h = absurd (h refl)
 lengthFits-stated (suc l) n h = refl
 
-pub fits-class : (s ds : List ℕ) (c : ℕ) → (getD s 0 0 ≡ c → ⊥) → fitsNumber (filterOf s) c ds ≡ false
+pub fits-class : (s ds : List ℕ) (c : ℕ) → (getD s CLASS-AT 0 ≡ c → ⊥) → fitsNumber (filterOf s) c ds ≡ false
 unfolding fitsNumber filterOf
-fits-class s ds c h = rw (ne-eqb (getD s 0 0) c h)
+fits-class s ds c h = rw (ne-eqb (getD s CLASS-AT 0) c h)
 
--- a filter of the number's class: p is its prefix's length as read, b whether the digits begin with the part at 2 to p + 2
-module _ (s ds : List ℕ) (c p : ℕ) (b : Bool) (bytes : FilterBytes s) (same : getD s 0 0 ≡ c) (p-is : p ≡ getD s 1 0)
-    (b-is : b ≡ beginsWith (take (p + 2 - 2) (drop 2 s)) ds) where
-  fits-same : fitsNumber (filterOf s) c ds ≡ (b && lengthFits (getD s 18 0) (length ds))
+-- a filter of the number's class: p is its prefix's length as read, b whether the digits begin with the part from PREFIX-DIGITS-AT to PREFIX-DIGITS-AT + p
+module _ (s ds : List ℕ) (c p : ℕ) (b : Bool) (bytes : FilterBytes s) (same : getD s CLASS-AT 0 ≡ c) (p-is : p ≡ getD s PREFIX-AT 0)
+    (b-is : b ≡ beginsWith (take (p + PREFIX-DIGITS-AT - PREFIX-DIGITS-AT) (drop PREFIX-DIGITS-AT s)) ds) where
+  fits-same : fitsNumber (filterOf s) c ds ≡ (b && lengthFits (getD s LENGTH-AT 0) (length ds))
   unfolding fitsNumber filterOf
   fits-same =
-      let k : p + 2 - 2 ≡ getD s 1 0 = omega arith in
-      let e : beginsWith (filterOf s .prefix) ds ≡ b = ap (λ (ps : List ℕ). beginsWith ps ds) (prefix-is s bytes ∙ ap (λ (n : ℕ). take n (drop 2 s)) (sym k)) ∙ sym b-is in
-      rw (eq-eqb (getD s 0 0) c same) (ap (λ (t : Bool). t && lengthFits (getD s 18 0) (length ds)) e)
+      let k : p + PREFIX-DIGITS-AT - PREFIX-DIGITS-AT ≡ getD s PREFIX-AT 0 = omega arith in
+      let e : beginsWith (filterOf s .prefix) ds ≡ b = ap (λ (ps : List ℕ). beginsWith ps ds) (prefix-is s bytes ∙ ap (λ (n : ℕ). take n (drop PREFIX-DIGITS-AT s)) (sym k)) ∙ sym b-is in
+      rw (eq-eqb (getD s CLASS-AT 0) c same) (ap (λ (t : Bool). t && lengthFits (getD s LENGTH-AT 0) (length ds)) e)
 
   pub fits-no : b ≡ false → fitsNumber (filterOf s) c ds ≡ false
   fits-no e = fits-same ∙ rw e
 
-  pub fits-any : b ≡ true → (l : ℕ) → l ≡ getD s 18 0 → l ≡ 0 → fitsNumber (filterOf s) c ds ≡ true
+  pub fits-any : b ≡ true → (l : ℕ) → l ≡ getD s LENGTH-AT 0 → l ≡ 0 → fitsNumber (filterOf s) c ds ≡ true
   fits-any e l l-is z = fits-same ∙ rw (e, ← l-is, z)
 
-  pub fits-stated : b ≡ true → (l : ℕ) → l ≡ getD s 18 0 → (l ≡ 0 → ⊥) → fitsNumber (filterOf s) c ds ≡ eqb l (length ds)
+  pub fits-stated : b ≡ true → (l : ℕ) → l ≡ getD s LENGTH-AT 0 → (l ≡ 0 → ⊥) → fitsNumber (filterOf s) c ds ≡ eqb l (length ds)
   fits-stated e l l-is z = fits-same ∙ rw (e, ← l-is) (lengthFits-stated l (length ds) z)
 
 -- WEIGHT
@@ -167,16 +168,16 @@ pub weight-none : (f : Filter) (ds : List ℕ) (c : ℕ) (b : Bool) → b ≡ fi
 unfolding weight
 weight-none f ds c b b-is e = rw (← b-is, e)
 
-module _ (s ds : List ℕ) (c p : ℕ) (b : Bool) (b-is : b ≡ fitsNumber (filterOf s) c ds) (e : b ≡ true) (bytes : FilterBytes s) (p-is : p ≡ getD s 1 0) where
-  weight-fits : weight c ds (filterOf s) ≡ 2 * p + stated (getD s 18 0) + 1
+module _ (s ds : List ℕ) (c p : ℕ) (b : Bool) (b-is : b ≡ fitsNumber (filterOf s) c ds) (e : b ≡ true) (bytes : FilterBytes s) (p-is : p ≡ getD s PREFIX-AT 0) where
+  weight-fits : weight c ds (filterOf s) ≡ 2 * p + stated (getD s LENGTH-AT 0) + 1
   unfolding weight rank filterOf
   weight-fits =
-      let h : getD s 1 0 ≤ length (drop 2 s) = simp length-drop (omega (arith, bytes .whole, bytes .prefix)) in
-      let l : length (filterOf s .prefix) ≡ p = ap length (prefix-is s bytes) ∙ length-take-le (getD s 1 0) (drop 2 s) h ∙ sym p-is in
-      rw (← b-is, e) (ap (λ (n : ℕ). 2 * n + stated (getD s 18 0) + 1) l)
+      let h : getD s PREFIX-AT 0 ≤ length (drop PREFIX-DIGITS-AT s) = simp length-drop (omega (arith, bytes .whole, bytes .prefix)) in
+      let l : length (filterOf s .prefix) ≡ p = ap length (prefix-is s bytes) ∙ length-take-le (getD s PREFIX-AT 0) (drop PREFIX-DIGITS-AT s) h ∙ sym p-is in
+      rw (← b-is, e) (ap (λ (n : ℕ). 2 * n + stated (getD s LENGTH-AT 0) + 1) l)
 
-  pub weight-any : getD s 18 0 ≡ 0 → weight c ds (filterOf s) ≡ 2 * p + 1
+  pub weight-any : getD s LENGTH-AT 0 ≡ 0 → weight c ds (filterOf s) ≡ 2 * p + 1
   weight-any z = weight-fits ∙ rw z (omega arith)
 
-  pub weight-stated : (getD s 18 0 ≡ 0 → ⊥) → weight c ds (filterOf s) ≡ 2 * p + 2
-  weight-stated z = weight-fits ∙ rw (stated-some (getD s 18 0) z) (omega arith)
+  pub weight-stated : (getD s LENGTH-AT 0 ≡ 0 → ⊥) → weight c ds (filterOf s) ≡ 2 * p + 2
+  weight-stated z = weight-fits ∙ rw (stated-some (getD s LENGTH-AT 0) z) (omega arith)

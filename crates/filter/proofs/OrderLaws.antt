@@ -6,6 +6,7 @@ use native.Mathlib.Numerals.{add-one}
 use native.Mathlib.Omega.{arith}
 use lib.ListN.{length, getD, take, drop, drop-of-length-le}
 use lib.Seq.{drop-cons}
+use Rattle.meaning.specs.Sizes.{CLASS-AT, PREFIX-AT, PREFIX-DIGITS-AT, LENGTH-AT}
 use Rattle.meaning.specs.Filters.{filterOf, _then_, comparePrefixes, compareLengths, compareFilters}
 use Rattle.meaning.proofs.ListingOrder.{numbers, compare-less, compare-more}
 use Rattle.filter.specs.Slots.{FilterBytes}
@@ -66,24 +67,24 @@ length-numbers (suc l) (suc m) a b = refl
 -- FILTERS: by class; then, with p and q the prefixes' lengths as read and o the order of the two parts, by o and the lengths
 
 module _ (a b : List ℕ) where
-  pub class-less : getD a 0 0 < getD b 0 0 → compareFilters (filterOf a) (filterOf b) ≡ Ordering·lt
+  pub class-less : getD a CLASS-AT 0 < getD b CLASS-AT 0 → compareFilters (filterOf a) (filterOf b) ≡ Ordering·lt
   unfolding compareFilters filterOf
-  class-less h = rw (compare-less (getD a 0 0) (getD b 0 0) h)
+  class-less h = rw (compare-less (getD a CLASS-AT 0) (getD b CLASS-AT 0) h)
 
-  pub class-more : getD b 0 0 < getD a 0 0 → compareFilters (filterOf a) (filterOf b) ≡ Ordering·gt
+  pub class-more : getD b CLASS-AT 0 < getD a CLASS-AT 0 → compareFilters (filterOf a) (filterOf b) ≡ Ordering·gt
   unfolding compareFilters filterOf
-  class-more h = rw (compare-more (getD a 0 0) (getD b 0 0) h)
+  class-more h = rw (compare-more (getD a CLASS-AT 0) (getD b CLASS-AT 0) h)
 
-  module _ (p q : ℕ) (o : Ordering) (ab : FilterBytes a) (bb : FilterBytes b) (h : getD b 0 0 ≤ getD a 0 0) (k : getD a 0 0 ≤ getD b 0 0)
-      (p-is : p ≡ getD a 1 0) (q-is : q ≡ getD b 1 0) (o-is : o ≡ comparePrefixes (take (p + 2 - 2) (drop 2 a)) (take (q + 2 - 2) (drop 2 b))) where
-    class-same : compareFilters (filterOf a) (filterOf b) ≡ o then compareLengths (getD a 18 0) (getD b 18 0)
+  module _ (p q : ℕ) (o : Ordering) (ab : FilterBytes a) (bb : FilterBytes b) (h : getD b CLASS-AT 0 ≤ getD a CLASS-AT 0) (k : getD a CLASS-AT 0 ≤ getD b CLASS-AT 0)
+      (p-is : p ≡ getD a PREFIX-AT 0) (q-is : q ≡ getD b PREFIX-AT 0) (o-is : o ≡ comparePrefixes (take (p + PREFIX-DIGITS-AT - PREFIX-DIGITS-AT) (drop PREFIX-DIGITS-AT a)) (take (q + PREFIX-DIGITS-AT - PREFIX-DIGITS-AT) (drop PREFIX-DIGITS-AT b))) where
+    class-same : compareFilters (filterOf a) (filterOf b) ≡ o then compareLengths (getD a LENGTH-AT 0) (getD b LENGTH-AT 0)
     unfolding compareFilters filterOf
     class-same =
-        let x : p + 2 - 2 ≡ getD a 1 0 = omega arith in
-        let y : q + 2 - 2 ≡ getD b 1 0 = omega arith in
+        let x : p + PREFIX-DIGITS-AT - PREFIX-DIGITS-AT ≡ getD a PREFIX-AT 0 = omega arith in
+        let y : q + PREFIX-DIGITS-AT - PREFIX-DIGITS-AT ≡ getD b PREFIX-AT 0 = omega arith in
         let e : comparePrefixes (filterOf a .prefix) (filterOf b .prefix) ≡ o =
-        ap₂ comparePrefixes (prefix-is a ab ∙ ap (λ (n : ℕ). take n (drop 2 a)) (sym x)) (prefix-is b bb ∙ ap (λ (n : ℕ). take n (drop 2 b)) (sym y)) ∙ sym o-is in
-        rw (compare-same (getD a 0 0) (getD b 0 0) k h) (ap (λ (t : Ordering). t then compareLengths (getD a 18 0) (getD b 18 0)) e)
+        ap₂ comparePrefixes (prefix-is a ab ∙ ap (λ (n : ℕ). take n (drop PREFIX-DIGITS-AT a)) (sym x)) (prefix-is b bb ∙ ap (λ (n : ℕ). take n (drop PREFIX-DIGITS-AT b)) (sym y)) ∙ sym o-is in
+        rw (compare-same (getD a CLASS-AT 0) (getD b CLASS-AT 0) k h) (ap (λ (t : Ordering). t then compareLengths (getD a LENGTH-AT 0) (getD b LENGTH-AT 0)) e)
 
     pub by-prefix-less : o ≡ Ordering·lt → compareFilters (filterOf a) (filterOf b) ≡ Ordering·lt
     by-prefix-less e = class-same ∙ rw e
@@ -91,5 +92,5 @@ module _ (a b : List ℕ) where
     pub by-prefix-more : o ≡ Ordering·gt → compareFilters (filterOf a) (filterOf b) ≡ Ordering·gt
     by-prefix-more e = class-same ∙ rw e
 
-    pub by-length : o ≡ Ordering·eq → compareFilters (filterOf a) (filterOf b) ≡ compareLengths (getD a 18 0) (getD b 18 0)
+    pub by-length : o ≡ Ordering·eq → compareFilters (filterOf a) (filterOf b) ≡ compareLengths (getD a LENGTH-AT 0) (getD b LENGTH-AT 0)
     by-length e = class-same ∙ rw e

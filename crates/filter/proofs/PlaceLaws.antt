@@ -7,13 +7,14 @@ use mathlib.Core.Bool.{Bool, true, false, _||_}
 use native.Mathlib.Omega.{arith}
 use lib.ListN.{length, take, drop, getD, set}
 use lib.Dec.{T}
+use Rattle.meaning.specs.Sizes.{RULE-WIDTH}
 use Rattle.meaning.specs.Basics.{all, any}
 use Rattle.meaning.specs.Filters.{Filter, filterOf, compareFilters, isLt, isBefore}
 use Rattle.meaning.specs.Rules.{Rule, filterIn, hasFilter, setNamed, inOrder, insert, rename, without}
 use Rattle.meaning.proofs.Tests.{and-left, and-right}
 use Rattle.meaning.proofs.ListingOrder.{filters}
 use Rattle.buffer.specs.Slots.{insertAt, removeAt}
-use Rattle.filter.specs.Slots.{RULE-WIDTH, rulesOf, ruleOf}
+use Rattle.filter.specs.Slots.{rulesOf, ruleOf}
 use Rattle.filter.specs.Place.{Place, held, absent, byOrder, placeFrom, filterPlace}
 use Rattle.filter.proofs.RuleLaws.{rulesFrom, rules-full, rules-end, rules-more, filter-in}
 

@@ -11,6 +11,7 @@ use lib.ListN.{length, take, drop, getD, set, getElem?, length-map, List·getD-m
 use lib.Seq.{length-take-le, getD-take, getD-drop, take-at}
 use lib.Dec.{T, ltb, lit<, leb→le}
 use borrow.Author.Tests.{lt-ltb, le-ltb}
+use Rattle.meaning.specs.Sizes.{PREFIX-AT, FILTER-BYTES, RULE-WIDTH}
 use Rattle.meaning.specs.Basics.{if_then_else_, all, word}
 use Rattle.meaning.specs.Filters.{filterOf, filterInRange}
 use Rattle.meaning.specs.Rules.{Rule, filterIn, weight, firstLargestFrom, firstLargest, chosenPlace}
@@ -20,7 +21,7 @@ use Rattle.buffer.specs.Zeros.{zeros}
 use Rattle.buffer.proofs.SlotLaws.{length-slots, slots-next, slots-part, slots-behind, slot-at, slots-with, wide-slots, wide-set, wide-insert, wide-remove, wide-append, slots-first}
 use Rattle.buffer.proofs.ZeroLaws.{length-zeros}
 use Rattle.buffer.proofs.ListLaws.{map-set, map-insert, map-remove, length-insert, length-remove, element-at, all-map}
-use Rattle.filter.specs.Slots.{RULE-WIDTH, FILTER-WIDTH, SET, FilterBytes, RuleArea, ruleOf, rulesOf, prefixFits}
+use Rattle.filter.specs.Slots.{FilterBytes, RuleArea, ruleOf, rulesOf, prefixFits}
 use Rattle.filter.proofs.FilterLaws.{filter-part, range-prefix-fits}
 
 -- ONE RULE
@@ -40,12 +41,12 @@ rule-at n k m h =
     element-at (map ruleOf (slots RULE-WIDTH n m)) k (ruleOf []) (rw (length-rules n m) h) ∙ ap some (List·getD-map ruleOf (slots RULE-WIDTH n m) k [] ∙ ap ruleOf (slot-at RULE-WIDTH k n m h))
 
 -- the set number of a slot that stands in an area
-pub set-read : (a : ℕ) (m : List ℕ) → ruleOf (take RULE-WIDTH (drop a m)) .set ≡ word m (a + SET)
+pub set-read : (a : ℕ) (m : List ℕ) → ruleOf (take RULE-WIDTH (drop a m)) .set ≡ word m (a + FILTER-BYTES)
 unfolding ruleOf
 set-read a m =
-    let high : _≡_ {A = ℕ} (getD (take RULE-WIDTH (drop a m)) SET 0) (getD m (a + SET) 0) = getD-take RULE-WIDTH (drop a m) SET 0 (lit< tt) ∙ getD-drop a m SET 0 in
-    let low : _≡_ {A = ℕ} (getD (take RULE-WIDTH (drop a m)) (SET + 1) 0) (getD m (a + (SET + 1)) 0) = getD-take RULE-WIDTH (drop a m) (SET + 1) 0 (lit< tt) ∙ getD-drop a m (SET + 1) 0 in
-    let n : a + (SET + 1) ≡ a + SET + 1 = omega arith in
+    let high : _≡_ {A = ℕ} (getD (take RULE-WIDTH (drop a m)) FILTER-BYTES 0) (getD m (a + FILTER-BYTES) 0) = getD-take RULE-WIDTH (drop a m) FILTER-BYTES 0 (lit< tt) ∙ getD-drop a m FILTER-BYTES 0 in
+    let low : _≡_ {A = ℕ} (getD (take RULE-WIDTH (drop a m)) (FILTER-BYTES + 1) 0) (getD m (a + (FILTER-BYTES + 1)) 0) = getD-take RULE-WIDTH (drop a m) (FILTER-BYTES + 1) 0 (lit< tt) ∙ getD-drop a m (FILTER-BYTES + 1) 0 in
+    let n : a + (FILTER-BYTES + 1) ≡ a + FILTER-BYTES + 1 = omega arith in
     rw (high, low, n)
 
 -- slot i of an area, as a part that is lent, has a filter's bytes
@@ -56,14 +57,14 @@ slot-bytes n i m area h =
     let e : length (take RULE-WIDTH (drop (RULE-WIDTH * i) m)) ≡ RULE-WIDTH = length-take-le RULE-WIDTH (drop (RULE-WIDTH * i) m) l in
     let t : T (prefixFits (getD (slots RULE-WIDTH n m) i [])) = all-place prefixFits (slots RULE-WIDTH n m) [] i (area .prefixes) (rw (length-slots RULE-WIDTH n m) h) in
     let u : T (prefixFits (take RULE-WIDTH (drop (RULE-WIDTH * i) m))) = rw (slot-at RULE-WIDTH i n m h) at t in
-    rw k (record { whole = omega arith; prefix = leb→le (getD (take RULE-WIDTH (drop (RULE-WIDTH * i) m)) 1 0) 16 u })
+    rw k (record { whole = omega arith; prefix = leb→le (getD (take RULE-WIDTH (drop (RULE-WIDTH * i) m)) PREFIX-AT 0) 16 u })
 
 -- rules whose filters are in range are such an area
 pub rules-area : (n : ℕ) (m : List ℕ) → n ≤ 4096 → RULE-WIDTH * n ≤ length m → T (all (λ (r : Rule). filterInRange (r .code)) (rulesOf n m)) → RuleArea n m
 unfolding rulesOf ruleOf
 rules-area n m h k t =
-    let u : T (all (λ (s : List ℕ). filterInRange (take FILTER-WIDTH s)) (slots RULE-WIDTH n m)) = rw (all-map ruleOf (λ (r : Rule). filterInRange (r .code)) (slots RULE-WIDTH n m)) at t in
-    record { few = h; room = k; prefixes = all-weaken (λ (s : List ℕ). filterInRange (take FILTER-WIDTH s)) prefixFits (slots RULE-WIDTH n m) range-prefix-fits u }
+    let u : T (all (λ (s : List ℕ). filterInRange (take FILTER-BYTES s)) (slots RULE-WIDTH n m)) = rw (all-map ruleOf (λ (r : Rule). filterInRange (r .code)) (slots RULE-WIDTH n m)) at t in
+    record { few = h; room = k; prefixes = all-weaken (λ (s : List ℕ). filterInRange (take FILTER-BYTES s)) prefixFits (slots RULE-WIDTH n m) range-prefix-fits u }
 
 -- A WALK: the rules from place i on
 

@@ -4,23 +4,14 @@ use mathlib.Core.Bool.{Bool}
 use mathlib.Core.List.{List, map}
 use lib.ListN.{length, take, getD}
 use lib.Dec.{T, leb}
+use Rattle.meaning.specs.Sizes.{PREFIX-AT, FILTER-BYTES, SET-AT, RULE-WIDTH}
 use Rattle.meaning.specs.Basics.{all, word}
 use Rattle.meaning.specs.Rules.{Rule}
 use Rattle.buffer.specs.Slots.{slots}
 
--- the bytes of a slot, those of its filter, and where its set number stands
-abbrev pub RULE-WIDTH : ℕ
-RULE-WIDTH = 24
-
-abbrev pub FILTER-WIDTH : ℕ
-FILTER-WIDTH = 19
-
-abbrev pub SET : ℕ
-SET = 19
-
 -- the rule of a slot
 unfoldable pub ruleOf : List ℕ → Rule
-ruleOf slot = record { code = take FILTER-WIDTH slot; set = word slot SET }
+ruleOf slot = record { code = take FILTER-BYTES slot; set = word slot SET-AT }
 
 -- the rules of the first n slots
 unfoldable pub rulesOf : ℕ → List ℕ → List Rule
@@ -28,12 +19,12 @@ rulesOf n area = map ruleOf (slots RULE-WIDTH n area)
 
 -- a prefix of at most 16 digits
 abbrev pub prefixFits : List ℕ → Bool
-prefixFits s = leb (getD s 1 0) 16
+prefixFits s = leb (getD s PREFIX-AT 0) 16
 
 -- bytes that begin with a filter: its own bytes alone, or a slot
 pub record FilterBytes (s : List ℕ) : Type 0 where
-  pub whole : FILTER-WIDTH ≤ length s
-  pub prefix : getD s 1 0 ≤ 16
+  pub whole : FILTER-BYTES ≤ length s
+  pub prefix : getD s PREFIX-AT 0 ≤ 16
 
 -- an area that begins with n rule slots
 pub record RuleArea (n : ℕ) (area : List ℕ) : Type 0 where

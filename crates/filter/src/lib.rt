@@ -1,12 +1,13 @@
-// Filters as bytes: range and listing order; and the lookup of a filter among rule slots of 24 bytes.
+// Filters as bytes: range and listing order; and the lookup of a filter among rule slots.
 ghost use mathlib.Core.Path.{_≡_};
 ghost use Prim.Native.Nat.{_+_, _*_, _≤_, _<_};
 ghost use lib.ListN.{length, take, drop};
+ghost use Rattle.meaning.specs.Sizes.{FILTER-BYTES, RULE-WIDTH};
 ghost use Rattle.meaning.specs.Basics.{beginsWith};
 ghost use Rattle.meaning.specs.Filters.{filterOf, filterInRange, comparePrefixes, compareLengths, compareFilters};
 ghost use Rattle.meaning.specs.Answers.{orderingOf, setOf};
 ghost use Rattle.blocks.specs.Places.{maskTable};
-ghost use Rattle.filter.specs.Slots.{RULE-WIDTH, FILTER-WIDTH, FilterBytes, RuleArea, ruleOf, rulesOf};
+ghost use Rattle.filter.specs.Slots.{FilterBytes, RuleArea, ruleOf, rulesOf};
 ghost use Rattle.filter.specs.Place.{filterPlace, placeGiven};
 use meaning::Class;
 use meaning::ClassOf;
@@ -14,46 +15,38 @@ use meaning::FilterPlace;
 use meaning::Order;
 use meaning::RulePlace;
 use meaning::SetNumber;
-
-// The bytes of a rule slot, and where its set number stands.
-pub const RULE_WIDTH: usize = 24;
-
-const SET: usize = 19;
-
-// Where a filter has its class, its prefix's length and digits, and its length.
-const CLASS: usize = 0;
-
-const PREFIX: usize = 1;
-
-const DIGITS: usize = 2;
-
-const LENGTH: usize = 18;
+use meaning::sizes::CLASS_AT;
+use meaning::sizes::LENGTH_AT;
+use meaning::sizes::PREFIX_AT;
+use meaning::sizes::PREFIX_DIGITS_AT;
+use meaning::sizes::RULE_WIDTH;
+use meaning::sizes::SET_AT;
 
 // Whether the bytes are a filter in range, by a table of masks that is made once for several filters.
 pub fn filter_in_range_by(code: &[u8], masks: &[u8]) -> bool
-    requires { ⌜ (FILTER-WIDTH ≤ length (now code)) × (now masks ≡ maskTable) ⌝ }
-    ensures { λ r. ⌜ r ≡ filterInRange (take FILTER-WIDTH (now (code .entry))) ⌝ }
+    requires { ⌜ (FILTER-BYTES ≤ length (now code)) × (now masks ≡ maskTable) ⌝ }
+    ensures { λ r. ⌜ r ≡ filterInRange (take FILTER-BYTES (now (code .entry))) ⌝ }
 {
-    let ClassOf::Known(_) = Class::of(code[CLASS]) else {
+    let ClassOf::Known(_) = Class::of(code[CLASS_AT]) else {
         return false;
     };
-    if !blocks::digits_in_range_by(&code[PREFIX..LENGTH], 0, 16, masks) {
+    if !blocks::digits_in_range_by(&code[PREFIX_AT..LENGTH_AT], 0, 16, masks) {
         return false;
     }
-    let len = code[LENGTH];
+    let len = code[LENGTH_AT];
     if 32 < len {
         return false;
     }
     if len == 0 {
         return true;
     }
-    code[PREFIX] <= len
+    code[PREFIX_AT] <= len
 }
 
 // The same for one filter.
 pub fn filter_in_range(code: &[u8]) -> bool
-    requires { ⌜ FILTER-WIDTH ≤ length (now code) ⌝ }
-    ensures { λ r. ⌜ r ≡ filterInRange (take FILTER-WIDTH (now (code .entry))) ⌝ }
+    requires { ⌜ FILTER-BYTES ≤ length (now code) ⌝ }
+    ensures { λ r. ⌜ r ≡ filterInRange (take FILTER-BYTES (now (code .entry))) ⌝ }
 {
     let mut masks = [0xffu8; 64];
     blocks::mask_digits(&mut masks);
@@ -125,18 +118,18 @@ pub fn order_filters(a: &[u8], b: &[u8]) -> Order
     requires { ⌜ FilterBytes (now b) ⌝ }
     ensures { λ r. ⌜ orderingOf r ≡ compareFilters (filterOf (now (a .entry))) (filterOf (now (b .entry))) ⌝ }
 {
-    if a[CLASS] < b[CLASS] {
+    if a[CLASS_AT] < b[CLASS_AT] {
         return Order::Before;
     }
-    if b[CLASS] < a[CLASS] {
+    if b[CLASS_AT] < a[CLASS_AT] {
         return Order::After;
     }
-    let ea = buffer::wide(a[PREFIX]) + DIGITS;
-    let eb = buffer::wide(b[PREFIX]) + DIGITS;
-    match order_prefixes(&a[DIGITS..ea], &b[DIGITS..eb]) {
+    let ea = buffer::wide(a[PREFIX_AT]) + PREFIX_DIGITS_AT;
+    let eb = buffer::wide(b[PREFIX_AT]) + PREFIX_DIGITS_AT;
+    match order_prefixes(&a[PREFIX_DIGITS_AT..ea], &b[PREFIX_DIGITS_AT..eb]) {
         Order::Before => Order::Before,
         Order::After => Order::After,
-        Order::Same => order_lengths(a[LENGTH], b[LENGTH]),
+        Order::Same => order_lengths(a[LENGTH_AT], b[LENGTH_AT]),
     }
 }
 
@@ -166,6 +159,6 @@ pub fn set_at(rules: &[u8], place: RulePlace) -> SetNumber
     ensures { λ r. ⌜ r ≡ setOf (ruleOf (take RULE-WIDTH (drop (RULE-WIDTH * place .0) (now (rules .entry)))) .set) ⌝ }
 {
     let k = place.0 as usize;
-    let n = buffer::word(rules, RULE_WIDTH * k + SET);
+    let n = buffer::word(rules, RULE_WIDTH * k + SET_AT);
     SetNumber(n as u16)
 }

@@ -10,7 +10,7 @@ use lib.Seq.{take-all}
 use borrow.Rule.Slice.PartMut.{putMid, midOf}
 use Rattle.meaning.specs.Basics.{if_then_else_, part, writtenOver}
 use Rattle.meaning.specs.Settings.{settingsOf}
-use Rattle.meaning.specs.Actions.{DN, ZN, CA, casOf, codesOf}
+use Rattle.meaning.specs.Actions.{CC, AC, SN, DN, ZN, CA, casOf, codesOf}
 use Rattle.meaning.specs.Groups.{isSet}
 use Rattle.meaning.specs.Conditioning.{short, stretchOf, digitsAt, valueFrom, conditionedFrom}
 use Rattle.meaning.specs.Services.{join}
@@ -48,9 +48,9 @@ conditioned-by : (xs : List CA) (value : ℕ → List ℕ) → join value (condi
 unfolding conditionedCodes conditionedFrom
 conditioned-by xs value = go (isSet ZN xs) (isSet DN xs)
   where
-    go : (z d : Bool) → join value (if z then (5 ∷ []) else if d then (1 ∷ 4 ∷ []) else (1 ∷ 2 ∷ 3 ∷ []))
-        ≡ (if z then value 5 else if d then value 1 ++ value 4 else value 1 ++ (value 2 ++ value 3))
-    go true d = append-nil (value 5)
+    go : (z d : Bool) → join value (if z then (ZN ∷ []) else if d then (CC ∷ DN ∷ []) else (CC ∷ AC ∷ SN ∷ []))
+        ≡ (if z then value ZN else if d then value CC ++ value DN else value CC ++ (value AC ++ value SN))
+    go true d = append-nil (value ZN)
     go false true = rw append-nil
     go false false = rw append-nil
 

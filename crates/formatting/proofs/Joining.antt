@@ -11,7 +11,7 @@ use borrow.Author.Tests.{eq-eqb, le-leb, lt-leb, leb-true, leb-false}
 use borrow.Rule.Slice.PartMut.{putMid, midOf, post-is, same-len-mid}
 use Rattle.meaning.specs.Basics.{if_then_else_, contains}
 use Rattle.meaning.specs.Settings.{Settings, Lookup, settingsOf, lookupOf}
-use Rattle.meaning.specs.Actions.{RN, casOf, codesOf}
+use Rattle.meaning.specs.Actions.{LAST-CONDITIONED, RN, casOf, codesOf}
 use Rattle.meaning.specs.Conditioning.{valueFrom}
 use Rattle.meaning.specs.Services.{rnSet, valueToSend, join}
 use Rattle.meaning.proofs.Tests.{is-true}
@@ -57,14 +57,14 @@ module _ (settings : Settings) (lookup : Lookup) (served : Served) (fas : List �
   pub asked : (value : ℕ → List ℕ) (f : ℕ) → T (contains f fas)
       → valueToSend settings value (stageOf settings lookup (RN ∷ []) served) f ≡ valueToSend settings value (stageOf settings lookup fas served) f
   unfolding valueToSend stageOf
-  asked value f t = go (leb f 10) (f - 11) refl refl
+  asked value f t = go (leb f LAST-CONDITIONED) (f - RN) refl refl
     where
-      only-rn : leb f 10 ≡ false → f - 11 ≡ 0 → stageOf settings lookup (RN ∷ []) served .rn ≡ stageOf settings lookup fas served .rn
+      only-rn : leb f LAST-CONDITIONED ≡ false → f - RN ≡ 0 → stageOf settings lookup (RN ∷ []) served .rn ≡ stageOf settings lookup fas served .rn
       only-rn l k =
-          let e : f ≡ RN = omega (arith, leb-false f 10 l, k) in
+          let e : f ≡ RN = omega (arith, leb-false f LAST-CONDITIONED l, k) in
           rn-asked (rw e at (is-true (contains f fas) t))
 
-      go : (b : Bool) (k : ℕ) → leb f 10 ≡ b → f - 11 ≡ k
+      go : (b : Bool) (k : ℕ) → leb f LAST-CONDITIONED ≡ b → f - RN ≡ k
           → (if b then value f else getD (stageOf settings lookup (RN ∷ []) served .rn ∷ others) k []) ≡ (if b then value f else getD (stageOf settings lookup fas served .rn ∷ others) k [])
       go true k l e = refl
       go false zero l e = only-rn l e

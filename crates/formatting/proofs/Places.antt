@@ -1,15 +1,16 @@
 -- Where the values to send lie in a source.
-use Prim.Native.Nat.{ℕ, _+_, _≤_, _<_}
+use Prim.Native.Nat.{ℕ, _+_, _-_, _≤_, _<_}
 use mathlib.Core.Path.{_≡_, refl, sym, ap, subst, _∙_}
 use mathlib.Core.List.{List, [], _++_, append-assoc}
 use native.Mathlib.Numerals.{add-one}
 use native.Mathlib.Omega.{arith}
 use lib.ListN.{length, take, drop, getD, length-append, length-take, length-drop}
 use lib.Seq.{take-all, take-take, take-add, take-at, drop-at, take-append-le, drop-append-le, drop-drop, drop-cons, getD-take, getD-drop, length-take-le}
+use Rattle.meaning.specs.Sizes.{SETTINGS-BYTES, DIALLED-DIGITS-AT, LOOKUP-AT, LOOKUP-BYTES, VALUE-BYTES}
 use Rattle.meaning.specs.Basics.{part, digitsOf, writtenOver}
 use Rattle.meaning.specs.declared.Span.{Span}
 use Rattle.buffer.proofs.ListLaws.{part-part}
-use Rattle.formatting.specs.Sources.{settingsIn, lookupIn, digitsIn, Lies}
+use Rattle.formatting.specs.Sources.{SOURCE-BYTES, LAST-STRING, settingsIn, lookupIn, digitsIn, Lies}
 
 -- PARTS OF A SOURCE
 
@@ -17,8 +18,8 @@ use Rattle.formatting.specs.Sources.{settingsIn, lookupIn, digitsIn, Lie
 pub part-within : (a n b k : ℕ) (s : List ℕ) → a + n ≤ k → part a n (part b k s) ≡ part (b + a) n s
 part-within a n b k s h = part-part a n k (drop b s) h ∙ ap (take n) (drop-drop a b s)
 
-pub kind-in : (source : List ℕ) → getD (lookupIn source) 0 0 ≡ getD source 34 0
-kind-in source = getD-take 39 (drop 34 source) 0 0 (omega arith) ∙ getD-drop 34 source 0 0
+pub kind-in : (source : List ℕ) → getD (lookupIn source) 0 0 ≡ getD source LOOKUP-AT 0
+kind-in source = getD-take LOOKUP-BYTES (drop LOOKUP-AT source) 0 0 (omega arith) ∙ getD-drop LOOKUP-AT source 0 0
 
 -- VALUES
 
@@ -29,7 +30,7 @@ pub nothing-lies : (source : List ℕ) → Lies [] source (record { start = 0; c
 nothing-lies source = record { is = refl; count = refl; low = omega arith; few = omega arith }
 
 -- a digit string of so many places, whose length byte is n: past its width, or within it
-module _ (source : List ℕ) (at width n : ℕ) (room : at + width < length source) (low : at ≤ 99) (few : width ≤ 32) (n-is : n ≡ getD source at 0) where
+module _ (source : List ℕ) (at width n : ℕ) (room : at + width < length source) (low : at ≤ LAST-STRING) (few : width ≤ 32) (n-is : n ≡ getD source at 0) where
   string-is : digitsOf (part at (width + 1) source) ≡ take n (part (at + 1) width source)
   string-is =
       rw (add-one width, drop-cons source at 0 (omega arith), ← n-is) (ap (λ (k : ℕ). take n (take width (drop k source))) (sym (add-one at)))
@@ -50,8 +51,8 @@ module _ (source : List ℕ) (at width n : ℕ) (room : at + width < length sour
   string-some h = lies-at n h (string-is ∙ take-take n width (drop (at + 1) source) h)
 
 -- the first n digits
-pub digits-long : (source : List ℕ) (n : ℕ) → 2 + n ≤ length source → length (digitsIn n source) ≡ n
-digits-long source n room = length-take-le n (drop 2 source) (rw length-drop (omega arith))
+pub digits-long : (source : List ℕ) (n : ℕ) → DIALLED-DIGITS-AT + n ≤ length source → length (digitsIn n source) ≡ n
+digits-long source n room = length-take-le n (drop DIALLED-DIGITS-AT source) (rw length-drop (omega arith))
 
 -- BLOCKS
 
@@ -89,29 +90,29 @@ module _ (source out : List ℕ) (start count k : ℕ) (h : 16 ≤ k) where
 
 -- A SOURCE
 
--- a body of 73 bytes and settings of 36, at the front of a buffer; behind them is room for a block that is taken whole
+-- what values are taken from of a body, and the settings, at the front of a buffer; behind them is room for a block that is taken whole
 unfoldable pub sourceOf : List ℕ → List ℕ → List ℕ → List ℕ
-sourceOf settings body buffer = body ++ (settings ++ drop 109 buffer)
+sourceOf settings body buffer = body ++ (settings ++ drop (VALUE-BYTES + SETTINGS-BYTES) buffer)
 
 -- the settings behind a body
-pub source-is : (settings body buffer : List ℕ) → length settings ≡ 36 → length body ≡ 73 → writtenOver (body ++ settings) buffer ≡ sourceOf settings body buffer
+pub source-is : (settings body buffer : List ℕ) → length settings ≡ SETTINGS-BYTES → length body ≡ VALUE-BYTES → writtenOver (body ++ settings) buffer ≡ sourceOf settings body buffer
 unfolding sourceOf
 source-is settings body buffer s b =
-    let l : length (body ++ settings) ≡ 109 = length-append body settings ∙ omega arith in
+    let l : length (body ++ settings) ≡ VALUE-BYTES + SETTINGS-BYTES = length-append body settings ∙ omega arith in
     rw (l, append-assoc)
 
 -- what a source has of them
-module _ (settings body buffer : List ℕ) (s : length settings ≡ 36) (b : length body ≡ 73) where
-  pub source-long : length buffer ≡ 144 → length (sourceOf settings body buffer) ≡ 144
+module _ (settings body buffer : List ℕ) (s : length settings ≡ SETTINGS-BYTES) (b : length body ≡ VALUE-BYTES) where
+  pub source-long : length buffer ≡ SOURCE-BYTES → length (sourceOf settings body buffer) ≡ SOURCE-BYTES
   unfolding sourceOf
   source-long l = rw (length-append, length-append, length-drop) (omega arith)
 
   pub source-settings : settingsIn (sourceOf settings body buffer) ≡ settings
   unfolding sourceOf
-  source-settings = ap (take 36) (drop-at body (settings ++ drop 109 buffer) 73 b) ∙ take-at settings (drop 109 buffer) 36 s
+  source-settings = ap (take SETTINGS-BYTES) (drop-at body (settings ++ drop (VALUE-BYTES + SETTINGS-BYTES) buffer) VALUE-BYTES b) ∙ take-at settings (drop (VALUE-BYTES + SETTINGS-BYTES) buffer) SETTINGS-BYTES s
 
-  pub source-part : (a n : ℕ) → a + n ≤ 73 → part a n (sourceOf settings body buffer) ≡ part a n body
+  pub source-part : (a n : ℕ) → a + n ≤ VALUE-BYTES → part a n (sourceOf settings body buffer) ≡ part a n body
   unfolding sourceOf
   source-part a n h =
-      ap (take n) (drop-append-le a body (settings ++ drop 109 buffer) (omega arith))
-      ∙ take-append-le n (drop a body) (settings ++ drop 109 buffer) (rw length-drop (omega arith))
+      ap (take n) (drop-append-le a body (settings ++ drop (VALUE-BYTES + SETTINGS-BYTES) buffer) (omega arith))
+      ∙ take-append-le n (drop a body) (settings ++ drop (VALUE-BYTES + SETTINGS-BYTES) buffer) (rw length-drop (omega arith))

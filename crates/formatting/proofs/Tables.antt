@@ -9,16 +9,17 @@ use lib.ListN.{length, drop, getD, set, length-set, length-drop, List·getD-eq-d
 use lib.Seq.{getD-set-same, getD-set-other, length-take-le}
 use lib.Dec.{T, leb, eqb}
 use borrow.Author.Tests.{eqb-true, eqb-false, leb-true, leb-false, le-leb, lt-leb}
+use Rattle.meaning.specs.Sizes.{SETTINGS-BYTES, DIALLED-DIGITS-AT, VALUE-BYTES, NUMBER-BYTES}
 use Rattle.meaning.specs.Basics.{if_then_else_, any, isZero, contains, part, digitsOf}
 use Rattle.meaning.specs.Settings.{settingsOf}
-use Rattle.meaning.specs.Actions.{CC, CA, isCCDEF, casOf, codesOf}
+use Rattle.meaning.specs.Actions.{CC, LAST-CONDITIONED, RN, DELIMITER-B, CA, isCCDEF, casOf, codesOf}
 use Rattle.meaning.specs.Conditioning.{Stretch, stretchOf, digitsAt, valueFrom}
 use Rattle.meaning.specs.Services.{join}
 use Rattle.meaning.specs.declared.Span.{Span}
 use Rattle.services.specs.declared.Served.{Served}
-use Rattle.conditioning.specs.Marks.{Marks, MarksAll}
+use Rattle.conditioning.specs.Marks.{PLACES, Marks, MarksAll}
 use Rattle.formatting.specs.Values.{serviceValue}
-use Rattle.formatting.specs.Sources.{settingsIn, lookupIn, digitsIn, Formattable, Lies}
+use Rattle.formatting.specs.Sources.{LAST-STRING, settingsIn, lookupIn, digitsIn, Formattable, Lies}
 use Rattle.formatting.specs.Tables.{Table, valueAt, Has, placeOf, sentAt, conditionedValue, servedOver, valueMade}
 use Rattle.formatting.specs.Joins.{outgoingBy}
 use Rattle.formatting.proofs.Values.{valueSent, sent-conditioned, sent-served}
@@ -27,7 +28,7 @@ use Rattle.formatting.proofs.Joining.{outgoing, join-same, outgoing-is}
 
 -- A VALUE PUT IN
 
-module _ {source starts counts : List ℕ} (t : Table source starts counts) (u : ℕ) (inside : u ≤ 16) (r : Span) {value : List ℕ} (lies : Lies value source r) where
+module _ {source starts counts : List ℕ} (t : Table source starts counts) (u : ℕ) (inside : u ≤ DELIMITER-B) (r : Span) {value : List ℕ} (lies : Lies value source r) where
   put-at : (v : ℕ) → v ≡ u → (getD (set starts u (r .start)) v 0 ≡ r .start) × (getD (set counts u (r .count)) v 0 ≡ r .count)
   put-at v e = rw e (getD-set-same starts u (r .start) 0 (omega (arith, t .starts-long)), getD-set-same counts u (r .count) 0 (omega (arith, t .counts-long)))
 
@@ -50,7 +51,7 @@ module _ {source starts counts : List ℕ} (t : Table source starts counts) (u :
         few = λ v. few v (eqb v u) refl;
       }
     where
-      low : (v : ℕ) (b : Bool) → eqb v u ≡ b → getD (set starts u (r .start)) v 0 ≤ 100
+      low : (v : ℕ) (b : Bool) → eqb v u ≡ b → getD (set starts u (r .start)) v 0 ≤ LAST-STRING + 1
       low v true e = rw (put-at v (eqb-true v u e) .0) (lies .low)
       low v false e = rw (kept-at v (eqb-false v u e) .0) (t .low v)
 
@@ -71,15 +72,15 @@ module _ {source starts counts : List ℕ} (t : Table source starts counts) (cas
       go v false = refl
 
   -- CCDEF: CC is the default, and any other value stays
-  pub country-put : any isCCDEF (casOf cas) ≡ true → (r : Span) → Lies (digitsOf (part 73 4 source)) source r
-      → Has (conditionedValue (settingsIn source) source cas starts counts) source (set starts 1 (r .start)) (set counts 1 (r .count))
+  pub country-put : any isCCDEF (casOf cas) ≡ true → (r : Span) → Lies (digitsOf (part VALUE-BYTES 4 source)) source r
+      → Has (conditionedValue (settingsIn source) source cas starts counts) source (set starts CC (r .start)) (set counts CC (r .count))
   unfolding conditionedValue settingsOf
-  country-put d r lies = record { table = table-put t 1 (omega arith) r lies; values = λ v h. rw d (go v (eqb v CC) refl) }
+  country-put d r lies = record { table = table-put t CC (omega arith) r lies; values = λ v h. rw d (go v (eqb v CC) refl) }
     where
       go : (v : ℕ) (b : Bool) → eqb v CC ≡ b
-          → valueAt source (set starts 1 (r .start)) (set counts 1 (r .count)) v ≡ (if b && true then digitsOf (part 0 4 (settingsIn source)) else valueAt source starts counts v)
-      go v true e = value-put t 1 (omega arith) r lies v (eqb-true v CC e) ∙ ap digitsOf (sym (part-within 0 4 73 36 source (omega arith)))
-      go v false e = value-kept t 1 (omega arith) r lies v (eqb-false v CC e)
+          → valueAt source (set starts CC (r .start)) (set counts CC (r .count)) v ≡ (if b && true then digitsOf (part 0 4 (settingsIn source)) else valueAt source starts counts v)
+      go v true e = value-put t CC (omega arith) r lies v (eqb-true v CC e) ∙ ap digitsOf (sym (part-within 0 4 VALUE-BYTES SETTINGS-BYTES source (omega arith)))
+      go v false e = value-kept t CC (omega arith) r lies v (eqb-false v CC e)
 
 -- THE VALUES BEHIND THOSE THAT CONDITIONING SETS, put in one after the other
 
@@ -88,12 +89,12 @@ pub record Serving (taken : ℕ → List ℕ) (served : Served) (source starts c
   pub table : Table source starts counts
   pub values : (v : ℕ) → v < f → valueAt source starts counts v ≡ servedOver (settingsIn source) (lookupIn source) served taken v
 
-pub serving-none : (served : Served) {source starts counts : List ℕ} → Table source starts counts → Serving (valueAt source starts counts) served source starts counts 11
+pub serving-none : (served : Served) {source starts counts : List ℕ} → Table source starts counts → Serving (valueAt source starts counts) served source starts counts RN
 unfolding servedOver
-serving-none served t = record { table = t; values = λ v h. let few : v ≤ 10 = omega arith in rw (le-leb v 10 few) }
+serving-none served t = record { table = t; values = λ v h. let few : v ≤ LAST-CONDITIONED = omega arith in rw (le-leb v LAST-CONDITIONED few) }
 
 module _ {taken : ℕ → List ℕ} {served : Served} {source starts counts : List ℕ} {f : ℕ} (g : Serving taken served source starts counts f) where
-  pub serving-more : 10 < f → f ≤ 16 → (v : ℕ) → v ≡ f → (r : Span) → Lies (serviceValue (settingsIn source) (lookupIn source) served f) source r
+  pub serving-more : LAST-CONDITIONED < f → f ≤ DELIMITER-B → (v : ℕ) → v ≡ f → (r : Span) → Lies (serviceValue (settingsIn source) (lookupIn source) served f) source r
       → Serving taken served source (set starts v (r .start)) (set counts v (r .count)) (f + 1)
   unfolding servedOver
   serving-more behind inside v v-is r lies =
@@ -103,12 +104,12 @@ module _ {taken : ℕ → List ℕ} {served : Served} {source starts counts : Li
           → valueAt source (set starts f (r .start)) (set counts f (r .count)) u ≡ servedOver (settingsIn source) (lookupIn source) served taken u
       go u h true e =
           let u-is : u ≡ f = eqb-true u f e in
-          value-put (g .table) f inside r lies u u-is ∙ rw (u-is, lt-leb f 10 behind)
+          value-put (g .table) f inside r lies u u-is ∙ rw (u-is, lt-leb f LAST-CONDITIONED behind)
       go u h false e =
           let apart : u ≢ f = eqb-false u f e in
           value-kept (g .table) f inside r lies u apart ∙ g .values u (omega arith)
 
-  pub serving-all : 17 ≤ f → Has (servedOver (settingsIn source) (lookupIn source) served taken) source starts counts
+  pub serving-all : DELIMITER-B + 1 ≤ f → Has (servedOver (settingsIn source) (lookupIn source) served taken) source starts counts
   serving-all h = record { table = g .table; values = λ v k. g .values v (omega arith) }
 
 -- over a table that has the values of conditioning
@@ -117,9 +118,9 @@ pub has-made : (source cas starts counts : List ℕ) {starts' counts' starts'' c
     → Has (valueMade (settingsIn source) source cas starts counts served) source starts'' counts''
 unfolding servedOver
 has-made source cas starts counts {starts'} {counts'} served a b =
-    record { table = b .table; values = λ f h. b .values f h ∙ go f h (leb f 10) }
+    record { table = b .table; values = λ f h. b .values f h ∙ go f h (leb f LAST-CONDITIONED) }
   where
-    go : (f : ℕ) → f ≤ 16 → (q : Bool) → (if q then valueAt source starts' counts' f else serviceValue (settingsIn source) (lookupIn source) served f)
+    go : (f : ℕ) → f ≤ DELIMITER-B → (q : Bool) → (if q then valueAt source starts' counts' f else serviceValue (settingsIn source) (lookupIn source) served f)
         ≡ (if q then conditionedValue (settingsIn source) source cas starts counts f else serviceValue (settingsIn source) (lookupIn source) served f)
     go f h true = a .values f h
     go f h false = refl
@@ -129,7 +130,7 @@ has-made source cas starts counts {starts'} {counts'} served a b =
 module _ {source starts counts : List ℕ} (t : Table source starts counts) (f : ℕ) where
   pub sent-lies : {r : Span} → r ≡ placeOf starts counts f → Lies (sentAt source starts counts f) source r
   unfolding sentAt
-  sent-lies {r} e = subst (λ (x : Span). Lies (sentAt source starts counts f) source x) (sym e) (go (leb f 16))
+  sent-lies {r} e = subst (λ (x : Span). Lies (sentAt source starts counts f) source x) (sym e) (go (leb f DELIMITER-B))
     where
       go : (b : Bool) → Lies (if b then valueAt source starts counts f else []) source (if b then record { start = getD starts f 0; count = getD counts f 0 } else record { start = 0; count = 0 })
       go true =
@@ -141,30 +142,30 @@ module _ {source starts counts : List ℕ} (t : Table source starts counts) (f :
           }
       go false = record { is = refl; count = refl; low = omega arith; few = omega arith }
 
--- no value has a code above 16
-no-value : (settings lookup : List ℕ) (served : Served) (f : ℕ) → 16 < f → [] ≡ serviceValue settings lookup served f
+-- no value has a code above that of delimiter B
+no-value : (settings lookup : List ℕ) (served : Served) (f : ℕ) → DELIMITER-B < f → [] ≡ serviceValue settings lookup served f
 unfolding serviceValue
 no-value settings lookup served f h =
-    let past : 6 ≤ f - 11 = omega arith in
+    let past : 6 ≤ f - RN = omega arith in
     rw List·getD-eq-default
 
 -- so what a table sends that has the values of all FAs
 pub sent-made : (settings body cas starts counts : List ℕ) (served : Served) {source starts' counts' : List ℕ} → Has (valueMade settings body cas starts counts served) source starts' counts'
     → (fas : List ℕ) → join (sentAt source starts' counts') (codesOf fas) ≡ outgoingBy settings body cas starts counts served fas
 unfolding sentAt servedOver
-sent-made settings body cas starts counts served {source} {starts'} {counts'} m fas = join-same _ _ (codesOf fas) (λ f t. go f (leb f 16) refl)
+sent-made settings body cas starts counts served {source} {starts'} {counts'} m fas = join-same _ _ (codesOf fas) (λ f t. go f (leb f DELIMITER-B) refl)
   where
-    go : (f : ℕ) (b : Bool) → leb f 16 ≡ b → (if b then valueAt source starts' counts' f else []) ≡ valueMade settings body cas starts counts served f
-    go f true e = m .values f (leb-true f 16 e)
+    go : (f : ℕ) (b : Bool) → leb f DELIMITER-B ≡ b → (if b then valueAt source starts' counts' f else []) ≡ valueMade settings body cas starts counts served f
+    go f true e = m .values f (leb-true f DELIMITER-B e)
     go f false e =
-        let h : 16 < f = leb-false f 16 e in
-        let past : 10 < f = omega arith in
-        no-value settings (lookupIn body) served f h ∙ rw (lt-leb f 10 past)
+        let h : DELIMITER-B < f = leb-false f DELIMITER-B e in
+        let past : LAST-CONDITIONED < f = omega arith in
+        no-value settings (lookupIn body) served f h ∙ rw (lt-leb f LAST-CONDITIONED past)
 
 -- WHAT CONDITIONING MARKS
 
--- a stretch of the number's digits, which begin at place 2 of a body
-marked-value : (body : List ℕ) (n : ℕ) (s : Stretch) (start count : ℕ) → Marks 2 n s start count → part start count body ≡ digitsAt s (digitsIn n body)
+-- a stretch of the number's digits, which begin behind their count in a body
+marked-value : (body : List ℕ) (n : ℕ) (s : Stretch) (start count : ℕ) → Marks DIALLED-DIGITS-AT n s start count → part start count body ≡ digitsAt s (digitsIn n body)
 marked-value body n s start count m = go (eqb count 0) refl
   where
     go : (b : Bool) → eqb count 0 ≡ b → part start count body ≡ digitsAt s (digitsIn n body)
@@ -172,7 +173,7 @@ marked-value body n s start count m = go (eqb count 0) refl
         let z : count ≡ 0 = eqb-true count 0 e in
         let y : s .count ≡ 0 = sym (m .counted) ∙ z in
         rw (z, y)
-    go false e = rw (m .begins (eqb-false count 0 e), m .counted) (sym (part-within (s .start) (s .count) 2 n body (m .within)))
+    go false e = rw (m .begins (eqb-false count 0 e), m .counted) (sym (part-within (s .start) (s .count) DIALLED-DIGITS-AT n body (m .within)))
 
 -- no code of a list is 0
 codes-positive : (cs : List ℕ) (f : ℕ) → T (contains f (codesOf cs)) → 0 < f
@@ -191,8 +192,8 @@ codes-positive (c ∷ cs) f t = go (codes-positive cs f) (isZero c) refl t
         pick false q s = later s
 
 -- what conditioning marks is within the digits of a body
-pub marks-formattable : (settings body : List ℕ) {xs : List CA} {starts counts : List ℕ} {prefix n : ℕ} → length settings ≡ 36 → length body ≡ 73 → n ≤ 32
-    → length starts ≡ 17 → length counts ≡ 17 → MarksAll prefix n 2 xs starts counts → Formattable settings body starts counts
+pub marks-formattable : (settings body : List ℕ) {xs : List CA} {starts counts : List ℕ} {prefix n : ℕ} → length settings ≡ SETTINGS-BYTES → length body ≡ NUMBER-BYTES → n ≤ 32
+    → length starts ≡ PLACES → length counts ≡ PLACES → MarksAll prefix n DIALLED-DIGITS-AT xs starts counts → Formattable settings body starts counts
 marks-formattable settings body s long few a b m =
     record {
       settings-long = s;
@@ -203,7 +204,7 @@ marks-formattable settings body s long few a b m =
       few = λ v. omega (arith, m .few v);
     }
 
-module _ (settings body cas : List ℕ) {starts counts : List ℕ} {prefix n : ℕ} (long : length body ≡ 73) (few : n ≤ 32) (m : MarksAll prefix n 2 (casOf cas) starts counts) where
+module _ (settings body cas : List ℕ) {starts counts : List ℕ} {prefix n : ℕ} (long : length body ≡ NUMBER-BYTES) (few : n ≤ 32) (m : MarksAll prefix n DIALLED-DIGITS-AT (casOf cas) starts counts) where
   -- the values are those of document 01
   taken-is : (v : ℕ) → 0 < v → conditionedValue settings body cas starts counts v ≡ valueFrom (settingsOf settings .country) prefix (digitsIn n body) (casOf cas) v
   unfolding conditionedValue valueFrom
@@ -217,9 +218,9 @@ module _ (settings body cas : List ℕ) {starts counts : List ℕ} {prefix n : �
   pub marked-outgoing : (served : Served) (fas : List ℕ) → outgoingBy settings body cas starts counts served fas ≡ outgoing settings (lookupIn body) (digitsIn n body) cas prefix served fas
   unfolding servedOver
   marked-outgoing served fas =
-      join-same _ _ (codesOf fas) (λ f t. go f (codes-positive fas f t) (leb f 10) refl) ∙ sym (outgoing-is settings (lookupIn body) (digitsIn n body) cas prefix served fas)
+      join-same _ _ (codesOf fas) (λ f t. go f (codes-positive fas f t) (leb f LAST-CONDITIONED) refl) ∙ sym (outgoing-is settings (lookupIn body) (digitsIn n body) cas prefix served fas)
     where
-      go : (f : ℕ) → 0 < f → (b : Bool) → leb f 10 ≡ b
+      go : (f : ℕ) → 0 < f → (b : Bool) → leb f LAST-CONDITIONED ≡ b
           → (if b then conditionedValue settings body cas starts counts f else serviceValue settings (lookupIn body) served f) ≡ valueSent settings (lookupIn body) (digitsIn n body) cas prefix served f
-      go f h true e = taken-is f h ∙ sent-conditioned settings (lookupIn body) (digitsIn n body) cas prefix served f (leb-true f 10 e)
-      go f h false e = sent-served settings (lookupIn body) (digitsIn n body) cas prefix served f (leb-false f 10 e)
+      go f h true e = taken-is f h ∙ sent-conditioned settings (lookupIn body) (digitsIn n body) cas prefix served f (leb-true f LAST-CONDITIONED e)
+      go f h false e = sent-served settings (lookupIn body) (digitsIn n body) cas prefix served f (leb-false f LAST-CONDITIONED e)

@@ -10,7 +10,7 @@ use lib.Dec.{eqb}
 use borrow.Author.Tests.{eq-eqb, ne-eqb, le-leb, lt-leb}
 use Rattle.meaning.specs.Basics.{if_then_else_, any, isEmpty, part, digitsOf}
 use Rattle.meaning.specs.Settings.{settingsOf, lookupOf}
-use Rattle.meaning.specs.Actions.{RN, CC, CA, isCCDEF, casOf}
+use Rattle.meaning.specs.Actions.{CC, LAST-CONDITIONED, RN, SP, ASD, GRN, DELIMITER-A, DELIMITER-B, CA, isCCDEF, casOf}
 use Rattle.meaning.specs.Conditioning.{stretchOf, digitsAt, valueFrom}
 use Rattle.meaning.specs.Services.{Stage, atStart, rnSet, valueToSend}
 use Rattle.services.specs.declared.Served.{Served}
@@ -88,21 +88,21 @@ unfoldable pub valueSent : List ℕ → List ℕ → List ℕ → List ℕ → �
 valueSent settings lookup digits cas prefix served f =
     valueToSend (settingsOf settings) (valueFrom (settingsOf settings .country) prefix digits (casOf cas)) (stageAsked settings lookup served) f
 
--- no value has a code above 16
+-- no value has a code above that of delimiter B
 beyond : (n f : ℕ) → n < f → f ≢ suc n → suc n < f
 beyond n f h e = omega arith
 
-behind-last : (f : ℕ) → 16 < f → 6 ≤ f - 11
+behind-last : (f : ℕ) → DELIMITER-B < f → 6 ≤ f - RN
 behind-last f h = omega arith
 
-pub past-values : (f : ℕ) → 10 < f → f ≢ 11 → f ≢ 12 → f ≢ 13 → f ≢ 14 → f ≢ 15 → f ≢ 16 → 6 ≤ f - 11
-past-values f h a b c d e g = behind-last f (beyond 15 f (beyond 14 f (beyond 13 f (beyond 12 f (beyond 11 f (beyond 10 f h a) b) c) d) e) g)
+pub past-values : (f : ℕ) → LAST-CONDITIONED < f → f ≢ RN → f ≢ SP → f ≢ ASD → f ≢ GRN → f ≢ DELIMITER-A → f ≢ DELIMITER-B → 6 ≤ f - RN
+past-values f h a b c d e g = behind-last f (beyond DELIMITER-A f (beyond GRN f (beyond ASD f (beyond SP f (beyond RN f (beyond LAST-CONDITIONED f h a) b) c) d) e) g)
 
 module _ (settings lookup digits cas : List ℕ) (prefix : ℕ) (served : Served) (f : ℕ) where
-  pub sent-conditioned : f ≤ 10 → valueFrom (settingsOf settings .country) prefix digits (casOf cas) f ≡ valueSent settings lookup digits cas prefix served f
+  pub sent-conditioned : f ≤ LAST-CONDITIONED → valueFrom (settingsOf settings .country) prefix digits (casOf cas) f ≡ valueSent settings lookup digits cas prefix served f
   unfolding valueSent valueToSend
-  sent-conditioned h = rw (le-leb f 10 h)
+  sent-conditioned h = rw (le-leb f LAST-CONDITIONED h)
 
-  pub sent-served : 10 < f → serviceValue settings lookup served f ≡ valueSent settings lookup digits cas prefix served f
+  pub sent-served : LAST-CONDITIONED < f → serviceValue settings lookup served f ≡ valueSent settings lookup digits cas prefix served f
   unfolding valueSent valueToSend serviceValue stageOf rnOf spOf
-  sent-served h = rw (lt-leb f 10 h)
+  sent-served h = rw (lt-leb f LAST-CONDITIONED h)

@@ -5,6 +5,7 @@ use mathlib.Core.Bool.{false}
 use mathlib.Core.List.{List, [], _∷_}
 use lib.ListN.{length, take}
 use lib.Dec.{leb}
+use Rattle.meaning.specs.Sizes.{SETTINGS-BYTES}
 use Rattle.meaning.specs.Basics.{if_then_else_, writtenOver}
 use Rattle.meaning.specs.Settings.{settingsOf}
 use Rattle.meaning.specs.Actions.{CC, AC, SN, DN, ZN, CA, casOf, codesOf}
@@ -28,7 +29,7 @@ conditionedCodes xs = if isSet ZN xs then (ZN ∷ []) else if isSet DN xs then (
 
 -- the settings, and digits that are enough for the conditioning actions
 pub record Conditionable (settings digits cas : List ℕ) (prefix : ℕ) : Type 0 where
-  pub settings-long : length settings ≡ 36
+  pub settings-long : length settings ≡ SETTINGS-BYTES
   pub enough : short prefix (length digits) (casOf cas) ≡ false
 
 -- the digits ds are written at the front of the buffer `entry`, and r is how many they are

@@ -1,5 +1,5 @@
 -- A table of places: of the value of each FA, where it begins and how many digits it has.
-use Prim.Native.Nat.{ℕ, _≤_}
+use Prim.Native.Nat.{ℕ, _+_, _≤_}
 use mathlib.Core.Path.{_≡_}
 use mathlib.Core.Bool.{_&&_}
 use mathlib.Core.List.{List, []}
@@ -7,18 +7,19 @@ use lib.ListN.{length, getD}
 use lib.Dec.{leb, eqb}
 use Rattle.meaning.specs.Basics.{if_then_else_, any, part}
 use Rattle.meaning.specs.Settings.{settingsOf}
-use Rattle.meaning.specs.Actions.{CC, isCCDEF, casOf}
+use Rattle.meaning.specs.Actions.{CC, LAST-CONDITIONED, DELIMITER-B, isCCDEF, casOf}
 use Rattle.meaning.specs.declared.Span.{Span}
 use Rattle.services.specs.declared.Served.{Served}
+use Rattle.conditioning.specs.Marks.{PLACES}
 use Rattle.formatting.specs.Values.{serviceValue}
-use Rattle.formatting.specs.Sources.{lookupIn}
+use Rattle.formatting.specs.Sources.{SOURCE-BYTES, LAST-STRING, lookupIn}
 
 -- each place has room behind it for the two blocks that a value may take
 pub record Table (source starts counts : List ℕ) : Type 0 where
-  pub long : length source ≡ 144
-  pub starts-long : length starts ≡ 17
-  pub counts-long : length counts ≡ 17
-  pub low : (v : ℕ) → getD starts v 0 ≤ 100
+  pub long : length source ≡ SOURCE-BYTES
+  pub starts-long : length starts ≡ PLACES
+  pub counts-long : length counts ≡ PLACES
+  pub low : (v : ℕ) → getD starts v 0 ≤ LAST-STRING + 1
   pub few : (v : ℕ) → getD counts v 0 ≤ 32
 
 -- what a table has for the value v
@@ -28,15 +29,15 @@ valueAt source starts counts v = part (getD starts v 0) (getD counts v 0) source
 -- a table that has a value for each code up to the last FA's
 pub record Has (value : ℕ → List ℕ) (source starts counts : List ℕ) : Type 0 where
   pub table : Table source starts counts
-  pub values : (f : ℕ) → f ≤ 16 → valueAt source starts counts f ≡ value f
+  pub values : (f : ℕ) → f ≤ DELIMITER-B → valueAt source starts counts f ≡ value f
 
 -- where a table has the value of an FA; there is none behind the last
 abbrev pub placeOf : List ℕ → List ℕ → ℕ → Span
-placeOf starts counts f = if leb f 16 then record { start = getD starts f 0; count = getD counts f 0 } else record { start = 0; count = 0 }
+placeOf starts counts f = if leb f DELIMITER-B then record { start = getD starts f 0; count = getD counts f 0 } else record { start = 0; count = 0 }
 
 -- what is sent for an FA
 unfoldable pub sentAt : List ℕ → List ℕ → List ℕ → ℕ → List ℕ
-sentAt source starts counts f = if leb f 16 then valueAt source starts counts f else []
+sentAt source starts counts f = if leb f DELIMITER-B then valueAt source starts counts f else []
 
 -- THE VALUES, over the settings, bytes that have the number and its lookup (a body or a source), and a table of what conditioning took of the number
 
@@ -47,7 +48,7 @@ conditionedValue settings source cas starts counts v =
 
 -- the values of the service actions and the delimiters are those behind the last that conditioning sets
 unfoldable pub servedOver : List ℕ → List ℕ → Served → (ℕ → List ℕ) → ℕ → List ℕ
-servedOver settings lookup served taken f = if leb f 10 then taken f else serviceValue settings lookup served f
+servedOver settings lookup served taken f = if leb f LAST-CONDITIONED then taken f else serviceValue settings lookup served f
 
 -- so the value of each FA
 abbrev pub valueMade : List ℕ → List ℕ → List ℕ → List ℕ → List ℕ → Served → ℕ → List ℕ

@@ -26,4 +26,4 @@ serviceValues settings lookup served =
     ∷ (if served .grn then lookupOf lookup .grn else []) ∷ settingsOf settings .delimiterA ∷ settingsOf settings .delimiterB ∷ []
 
 unfoldable pub serviceValue : List ℕ → List ℕ → Served → ℕ → List ℕ
-serviceValue settings lookup served f = getD (serviceValues settings lookup served) (f - 11) []
+serviceValue settings lookup served f = getD (serviceValues settings lookup served) (f - RN) []

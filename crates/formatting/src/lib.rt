@@ -7,77 +7,72 @@ use buffer::copy;
 use buffer::wide;
 use conditioning::stretch_in;
 use meaning::Span;
+use meaning::ca::CCDEF;
+use meaning::fa::AC;
+use meaning::fa::ASD;
+use meaning::fa::CC;
+use meaning::fa::DELIMITER_A;
+use meaning::fa::DELIMITER_B;
+use meaning::fa::DN;
+use meaning::fa::GRN;
+use meaning::fa::RN;
+use meaning::fa::SN;
+use meaning::fa::SP;
+use meaning::fa::ZN;
+use meaning::sizes::ASD_IN;
+use meaning::sizes::COUNTRY_AT;
+use meaning::sizes::COUNTRY_DIGITS_AT;
+use meaning::sizes::DELIMITER_A_AT;
+use meaning::sizes::DELIMITER_B_AT;
+use meaning::sizes::DFLTRN_AT;
+use meaning::sizes::ENTITY_IN;
+use meaning::sizes::GRN_IN;
+use meaning::sizes::LOOKUP_AT;
+use meaning::sizes::SETTINGS_BYTES;
+use meaning::sizes::VALUE_BYTES;
 use services::Served;
 ghost use mathlib.Core.Path.{_≡_};
 ghost use Prim.Native.Nat.{_+_, _≤_, _<_};
 ghost use lib.ListN.{length, take};
+ghost use Rattle.meaning.specs.Sizes.{SETTINGS-BYTES};
 ghost use Rattle.meaning.specs.Basics.{part, digitsOf};
 ghost use Rattle.meaning.specs.Settings.{settingsOf};
-ghost use Rattle.meaning.specs.Actions.{casOf, codesOf};
+ghost use Rattle.meaning.specs.Actions.{LAST-CONDITIONED, casOf, codesOf};
 ghost use Rattle.meaning.specs.Conditioning.{valueFrom};
 ghost use Rattle.meaning.specs.Services.{join};
 ghost use Rattle.formatting.specs.Values.{digitsIf, rnOf, spOf, serviceValue};
-ghost use Rattle.formatting.specs.Sources.{settingsIn, lookupIn, Formattable, Held, Lies};
+ghost use Rattle.conditioning.specs.Marks.{PLACES};
+ghost use Rattle.formatting.specs.Sources.{SOURCE-BYTES, LAST-STRING, settingsIn, lookupIn, Formattable, Held, Lies};
 ghost use Rattle.formatting.specs.Tables.{Table, valueAt, Has, placeOf, sentAt, conditionedValue, servedOver, valueMade};
 ghost use Rattle.formatting.specs.Joins.{conditioned, conditionedCodes, outgoingBy, Conditionable, Writes, JoinsInto};
 
-const CC: u8 = 1;
-
-const AC: u8 = 2;
-
-const SN: u8 = 3;
-
-const DN: u8 = 4;
-
-const ZN: u8 = 5;
-
-const RN: u8 = 11;
-
-const SP: u8 = 12;
-
-const ASD: u8 = 13;
-
-const GRN: u8 = 14;
-
-const DELIMITER_A: u8 = 15;
-
-const DELIMITER_B: u8 = 16;
-
-// The conditioning code CCDEF.
-const CCDEF: u8 = 15;
-
-// A SOURCE: the body of a number and, behind it, the settings
+// A SOURCE: of a number's body the bytes that values are taken from and, behind them, the settings
 
 // The bytes of a source: behind the settings, room for a block that is taken whole.
 const SOURCE_BYTES: usize = 144;
 
-// Where a source has the kind of the lookup, and each string of the lookup and of the settings.
-const KIND: usize = 34;
+// Where a source has each string of the lookup, which stands as in a body; the settings, and each string of them.
+const ENTITY: usize = LOOKUP_AT + ENTITY_IN;
 
-const ENTITY: usize = 35;
+const ASD_STRING: usize = LOOKUP_AT + ASD_IN;
 
-const ASD_STRING: usize = 51;
+const GRN_STRING: usize = LOOKUP_AT + GRN_IN;
 
-const GRN_STRING: usize = 62;
+const SETTINGS: usize = VALUE_BYTES;
 
-const SETTINGS: usize = 73;
+const COUNTRY: usize = SETTINGS + COUNTRY_AT;
 
-// The bytes of the settings.
-const SETTINGS_BYTES: usize = 36;
+const DFLTRN: usize = SETTINGS + DFLTRN_AT;
 
-const COUNTRY: usize = 73;
+const DELIMITER_A_STRING: usize = SETTINGS + DELIMITER_A_AT;
 
-const DFLTRN: usize = 77;
-
-const DELIMITER_A_STRING: usize = 93;
-
-const DELIMITER_B_STRING: usize = 99;
+const DELIMITER_B_STRING: usize = SETTINGS + DELIMITER_B_AT;
 
 // WHERE A VALUE LIES
 
 // The digits of a digit string of so many places.
 fn string_at(source: &[u8], at: usize, width: usize) -> Span
-    requires { ⌜ (at + width < length (now source)) × (at ≤ 99) × (width ≤ 32) ⌝ }
+    requires { ⌜ (at + width < length (now source)) × (at ≤ LAST-STRING) × (width ≤ 32) ⌝ }
     ensures { λ r. ⌜ Lies (digitsOf (part at (width + 1) (now (source .entry)))) (now (source .entry)) r ⌝ }
 {
     let n = wide(source[at]);
@@ -95,7 +90,7 @@ fn string_at(source: &[u8], at: usize, width: usize) -> Span
 
 // The same where it is set, else none.
 fn string_if(set: bool, source: &[u8], at: usize, width: usize) -> Span
-    requires { ⌜ (at + width < length (now source)) × (at ≤ 99) × (width ≤ 32) ⌝ }
+    requires { ⌜ (at + width < length (now source)) × (at ≤ LAST-STRING) × (width ≤ 32) ⌝ }
     ensures { λ r. ⌜ Lies (digitsIf set (part at (width + 1) (now (source .entry)))) (now (source .entry)) r ⌝ }
 {
     if set {
@@ -106,10 +101,10 @@ fn string_if(set: bool, source: &[u8], at: usize, width: usize) -> Span
 
 // RN where CDPNNP was carried out: the entity for kind 2, DFLTRN for kind 3.
 fn routing_number(source: &[u8], ported: bool) -> Span
-    requires { ⌜ length (now source) ≡ 144 ⌝ }
+    requires { ⌜ length (now source) ≡ SOURCE-BYTES ⌝ }
     ensures { λ r. ⌜ Lies (rnOf (settingsIn (now (source .entry))) (lookupIn (now (source .entry))) ported) (now (source .entry)) r ⌝ }
 {
-    let kind = source[KIND];
+    let kind = source[LOOKUP_AT];
     if kind == 2 {
         return string_if(ported, source, ENTITY, 15);
     }
@@ -121,10 +116,10 @@ fn routing_number(source: &[u8], ported: bool) -> Span
 
 // SP where CDPNNP was carried out: the entity for kind 3.
 fn service_provider(source: &[u8], ported: bool) -> Span
-    requires { ⌜ length (now source) ≡ 144 ⌝ }
+    requires { ⌜ length (now source) ≡ SOURCE-BYTES ⌝ }
     ensures { λ r. ⌜ Lies (spOf (lookupIn (now (source .entry))) ported) (now (source .entry)) r ⌝ }
 {
-    if source[KIND] == 3 {
+    if source[LOOKUP_AT] == 3 {
         return string_if(ported, source, ENTITY, 15);
     }
     Span { start: 0, count: 0 }
@@ -132,7 +127,7 @@ fn service_provider(source: &[u8], ported: bool) -> Span
 
 // The value of a formatting action behind those that conditioning sets.
 fn service_value(source: &[u8], served: Served, f: u8) -> Span
-    requires { ⌜ (length (now source) ≡ 144) × (10 < f) ⌝ }
+    requires { ⌜ (length (now source) ≡ SOURCE-BYTES) × (LAST-CONDITIONED < f) ⌝ }
     ensures { λ r. ⌜ Lies (serviceValue (settingsIn (now (source .entry))) (lookupIn (now (source .entry))) served f) (now (source .entry)) r ⌝ }
 {
     match f {
@@ -149,7 +144,7 @@ fn service_value(source: &[u8], served: Served, f: u8) -> Span
 // A TABLE of where the value of each formatting action lies. Conditioning has marked the values that it took of the number
 
 // The place of CC in a table: its number.
-const CC_PLACE: usize = 1;
+const CC_PLACE: usize = CC as usize;
 
 // Puts in the default country code where CCDEF sets CC to it.
 fn place_country(source: &[u8], cas: &[u8], starts: &mut [u8], counts: &mut [u8])
@@ -189,7 +184,7 @@ fn place_values(source: &[u8], cas: &[u8], served: Served, starts: &mut [u8], co
 
 // Where the value that a formatting action sends lies.
 fn value_to_send(starts: &[u8], counts: &[u8], f: u8) -> Span
-    requires { ⌜ (length (now starts) ≡ 17) × (length (now counts) ≡ 17) ⌝ }
+    requires { ⌜ (length (now starts) ≡ PLACES) × (length (now counts) ≡ PLACES) ⌝ }
     ensures { λ r. ⌜ r ≡ placeOf (now (starts .entry)) (now (counts .entry)) f ⌝ }
 {
     if DELIMITER_B < f {
@@ -283,7 +278,7 @@ pub fn join_outgoing(
     ensures { λ r. ⌜ JoinsInto (outgoingBy (now (settings .entry)) (now (body .entry)) (now (cas .entry)) (now (starts .entry)) (now (counts .entry)) served (now (fas .entry))) most (now (out .exit)) r ⌝ }
 {
     let mut source = [0u8; SOURCE_BYTES];
-    copy(&mut source, &body[0..SETTINGS]);
+    copy(&mut source, &body[0..VALUE_BYTES]);
     copy(&mut source[SETTINGS..], &settings[0..SETTINGS_BYTES]);
     join_values(&source, cas, served, fas, starts, counts, most, out)
 }
@@ -305,11 +300,11 @@ fn conditioned_codes(cas: &[u8]) -> [u8; 3]
 
 // The default country code.
 fn country_of(settings: &[u8]) -> &[u8]
-    requires { ⌜ length (now settings) ≡ 36 ⌝ }
+    requires { ⌜ length (now settings) ≡ SETTINGS-BYTES ⌝ }
     ensures { λ r. ⌜ now r ≡ settingsOf (now (settings .entry)) .country ⌝ }
 {
-    let n = wide(settings[0]);
-    let country = &settings[1..4];
+    let n = wide(settings[COUNTRY_AT]);
+    let country = &settings[COUNTRY_DIGITS_AT..DFLTRN_AT];
     if n < country.len() {
         return &country[0..n];
     }

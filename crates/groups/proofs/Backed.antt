@@ -11,20 +11,20 @@ use Rattle.meaning.specs.Groups.{isSet, isBacked}
 module _ (s : ActionSet) (f : ℕ) where
   pub value-backed : f ≤ LAST-CONDITIONED → isBacked s f ≡ isSet f (s .cas)
   unfolding isBacked
-  value-backed h = rw (le-leb f 10 h)
+  value-backed h = rw (le-leb f LAST-CONDITIONED h)
 
   pub sp-backed : LAST-CONDITIONED < f → f ≤ SP → isBacked s f ≡ contains CDPNNP (s .sas)
   unfolding isBacked
-  sp-backed h k = rw (lt-leb f 10 h, le-leb f 12 k)
+  sp-backed h k = rw (lt-leb f LAST-CONDITIONED h, le-leb f SP k)
 
   pub asd-backed : f ≡ ASD → isBacked s f ≡ contains ASDLKUP (s .sas)
   unfolding isBacked
-  asd-backed e = rw (lt-leb f 10 (omega arith), lt-leb f 12 (omega arith), eq-eqb f 13 e)
+  asd-backed e = rw (lt-leb f LAST-CONDITIONED (omega arith), lt-leb f SP (omega arith), eq-eqb f ASD e)
 
   pub grn-backed : f ≡ GRN → isBacked s f ≡ contains GRNLKUP (s .sas)
   unfolding isBacked
-  grn-backed e = rw (lt-leb f 10 (omega arith), lt-leb f 12 (omega arith), ne-eqb f 13 (λ k. omega arith), eq-eqb f 14 e)
+  grn-backed e = rw (lt-leb f LAST-CONDITIONED (omega arith), lt-leb f SP (omega arith), ne-eqb f ASD (λ k. omega arith), eq-eqb f GRN e)
 
   pub delimiter-backed : GRN < f → isBacked s f ≡ true
   unfolding isBacked
-  delimiter-backed h = rw (lt-leb f 10 (omega arith), lt-leb f 12 (omega arith), ne-eqb f 13 (λ k. omega arith), ne-eqb f 14 (λ k. omega arith))
+  delimiter-backed h = rw (lt-leb f LAST-CONDITIONED (omega arith), lt-leb f SP (omega arith), ne-eqb f ASD (λ k. omega arith), ne-eqb f GRN (λ k. omega arith))

@@ -1,5 +1,4 @@
 // The group rules of a set's actions.
-use actions::FPFX;
 use actions::action_at;
 use actions::code_at;
 use actions::contains;
@@ -10,12 +9,29 @@ use actions::is_x;
 use actions::no_codes;
 use actions::no_conditioning;
 use actions::value_of;
+use meaning::ca::CCDEF;
+use meaning::ca::FPFX;
+use meaning::fa::AC;
+use meaning::fa::ASD;
+use meaning::fa::CC;
+use meaning::fa::DN;
+use meaning::fa::GRN;
+use meaning::fa::LAST_CONDITIONED;
+use meaning::fa::SN;
+use meaning::fa::SP;
+use meaning::fa::ZN;
+use meaning::sa::ASDLKUP;
+use meaning::sa::CDIAL;
+use meaning::sa::CDPNNP;
+use meaning::sa::GRNLKUP;
+use meaning::sa::INPRTG;
 use ranges::cas_of;
 use ranges::fas_of;
 use ranges::sas_of;
 ghost use mathlib.Core.Path.{_≡_};
 ghost use mathlib.Core.Bool.{_||_, not};
 ghost use lib.ListN.{length};
+ghost use Rattle.meaning.specs.Sizes.{CONTENT-BYTES};
 ghost use Rattle.meaning.specs.Basics.{all, allOf, isZero};
 ghost use Rattle.meaning.specs.Actions.{isCCDEF, valueOf, casOf, codesOf, actionsOf};
 ghost use Rattle.meaning.specs.Groups.{isSet, nothingWithoutCA, oneFormat, formatStands, eachValueOnce, fpfxFirst};
@@ -23,27 +39,9 @@ ghost use Rattle.meaning.specs.Groups.{oneXAction, onlyCcdefAfterX, precedence,
 ghost use Rattle.meaning.specs.Groups.{noServiceRepeats, isBacked, formattingBacked, groupsHold};
 ghost use Rattle.groups.specs.Rules.{caRules};
 
-const CC: u8 = 1;
-
-const AC: u8 = 2;
-
-const SN: u8 = 3;
-
-const DN: u8 = 4;
-
-const ZN: u8 = 5;
-
-const CCDEF: u8 = 15;
-
-const CDPNNP: u8 = 2;
-
-const ASDLKUP: u8 = 3;
-
-const GRNLKUP: u8 = 4;
-
 // With no conditioning action there are no service and no formatting actions.
 pub fn nothing_without_ca(content: &[u8]) -> bool
-    requires { ⌜ length (now content) ≡ 45 ⌝ }
+    requires { ⌜ length (now content) ≡ CONTENT-BYTES ⌝ }
     ensures { λ r. ⌜ r ≡ nothingWithoutCA (actionsOf (now (content .entry))) ⌝ }
 {
     let sas = sas_of(content);
@@ -164,10 +162,10 @@ fn precedence(service: u8) -> u8
     ensures { λ r. ⌜ r ≡ precedence service ⌝ }
 {
     match service {
-        1 => 95,
-        2 => 80,
-        3..=4 => 50,
-        5 => 20,
+        INPRTG => 95,
+        CDPNNP => 80,
+        ASDLKUP..=GRNLKUP => 50,
+        CDIAL => 20,
         _ => 0,
     }
 }
@@ -222,19 +220,19 @@ pub fn no_service_repeats(sas: &[u8]) -> bool
 
 // The formatting action f has the conditioning or service action that it needs.
 pub fn is_backed(content: &[u8], f: u8) -> bool
-    requires { ⌜ length (now content) ≡ 45 ⌝ }
+    requires { ⌜ length (now content) ≡ CONTENT-BYTES ⌝ }
     ensures { λ r. ⌜ r ≡ isBacked (actionsOf (now (content .entry))) f ⌝ }
 {
-    if f <= 10 {
+    if f <= LAST_CONDITIONED {
         return is_set(cas_of(content), f);
     }
-    if f <= 12 {
+    if f <= SP {
         return contains(sas_of(content), CDPNNP);
     }
-    if f == 13 {
+    if f == ASD {
         return contains(sas_of(content), ASDLKUP);
     }
-    if f == 14 {
+    if f == GRN {
         return contains(sas_of(content), GRNLKUP);
     }
     true
@@ -242,7 +240,7 @@ pub fn is_backed(content: &[u8], f: u8) -> bool
 
 // Every formatting action has the action that it needs.
 pub fn formatting_backed(content: &[u8]) -> bool
-    requires { ⌜ length (now content) ≡ 45 ⌝ }
+    requires { ⌜ length (now content) ≡ CONTENT-BYTES ⌝ }
     ensures { λ r. ⌜ r ≡ formattingBacked (actionsOf (now (content .entry))) ⌝ }
 {
     let fas = fas_of(content);
@@ -280,7 +278,7 @@ fn conditioning_holds(cas: &[u8]) -> bool
 
 // The group rules of a set's content.
 pub fn groups_hold(content: &[u8]) -> bool
-    requires { ⌜ length (now content) ≡ 45 ⌝ }
+    requires { ⌜ length (now content) ≡ CONTENT-BYTES ⌝ }
     ensures { λ r. ⌜ r ≡ groupsHold (actionsOf (now (content .entry))) ⌝ }
 {
     if !nothing_without_ca(content) {

@@ -9,6 +9,7 @@ use native.Mathlib.Omega.{arith}
 use lib.ListN.{length, take, getD, getElem?, length-map}
 use lib.Dec.{T, eqb, leb, ltb, eqb-refl}
 use borrow.Author.Tests.{eqb-true, leb-true, le-ltb}
+use Rattle.meaning.specs.Sizes.{SET-BODY, DIGIT-ROOM}
 use Rattle.meaning.specs.Basics.{if_then_else_, within, all, any, count, part, isSome, word}
 use Rattle.meaning.specs.Refusals.{PLAN, IN-USE}
 use Rattle.meaning.specs.Settings.{roomsOf, roomsInRange}
@@ -114,11 +115,11 @@ module _ (m : List ℕ) (sound-m : soundOf m ≡ true) (class : ℕ) (ds : List 
 -- WHAT IS LISTED AND READ
 
 -- a set that is held reads back
-read-back : (p : Plan) → Sound p → (n : ℕ) (content : List ℕ) (size : ℕ) → held p n ≡ some content → 47 ≤ size
+read-back : (p : Plan) → Sound p → (n : ℕ) (content : List ℕ) (size : ℕ) → held p n ≡ some content → SET-BODY ≤ size
     → setContent (some p) size n ≡ read (n / 256 ∷ n % 256 ∷ content)
 read-back p s n content size e h =
     let is : T (isSome (held p n)) = rw e tt in
-    rw (le-ltb size 47 h, held-below p n s is, e)
+    rw (le-ltb size SET-BODY h, held-below p n s is, e)
 
 few-listed : (p : Plan) → Sound p → length (listing p) ≤ 4096
 unfolding listing roomsInRange roomsOf
@@ -248,7 +249,7 @@ joined-same read other ds e at (a ∷ xs) =
 
 module _ (m : List ℕ) (p : Plan) (state : stateOf m ≡ some p) (s : Sound p) where
   conditions-as : (class : ℕ) (ds : List ℕ) (r : Rule) (content : List ℕ) → Conditions p class ds r content
-      → (out left : List ℕ) (w : Written) → 35 ≤ length out → ConditionedPromise m class ds out left w → ConditionsAs m class ds r content w
+      → (out left : List ℕ) (w : Written) → DIGIT-ROOM ≤ length out → ConditionedPromise m class ds out left w → ConditionsAs m class ds r content w
   conditions-as class ds r content given out left w room g =
       let holds : NumberHolds p class ds r content (length out) = every-number p (sound-of p s) class ds r content given (length out) room in
       let same : refusalOfWritten w ≡ conditioned (some p) (length out) class ds .refusal =

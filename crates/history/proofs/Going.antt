@@ -11,7 +11,7 @@ use lib.Seq.{drop-cons, drop-drop}
 use lib.Dec.{leb, ltb}
 use borrow.Author.Tests.{leb-true, ltb-true, ltb-false}
 use Rattle.meaning.specs.Basics.{writtenOver}
-use Rattle.meaning.specs.Calls.{Call, bodyLength}
+use Rattle.meaning.specs.Calls.{Call, isCall, bodyLength}
 use Rattle.meaning.specs.Records.{callOf}
 use Rattle.changes.specs.Promise.{numberFor, memoryAfter, Provides}
 use Rattle.changes.proofs.ArmLaws.{keeps-length}
@@ -29,13 +29,13 @@ none-past bytes at h = rw (drop-of-length-le bytes h)
 
 module _ (bytes : List ℕ) (at : ℕ) where
   pub whole-is : at < length bytes
-      → beginsWhole (drop at bytes) ≡ (leb (getD bytes at 0) 6 && leb (bodyLength (getD bytes at 0)) (length bytes - (at + 1)))
+      → beginsWhole (drop at bytes) ≡ (isCall (getD bytes at 0) && leb (bodyLength (getD bytes at 0)) (length bytes - (at + 1)))
   whole-is h = rw (add-one, drop-cons bytes at 0 h, length-drop (suc at) bytes)
 
   -- a whole record of a call begins there
   pub record WholeAt : Type 0 where
     pub inside : at < length bytes
-    pub kind : getD bytes at 0 ≤ 6
+    pub kind : isCall (getD bytes at 0) ≡ true
     pub fits : at + 1 + bodyLength (getD bytes at 0) ≤ length bytes
 
   whole-at : beginsWhole (drop at bytes) ≡ true → WholeAt
@@ -45,9 +45,9 @@ module _ (bytes : List ℕ) (at : ℕ) where
       go true t =
           let h : at < length bytes = ltb-true at (length bytes) t in
           let k : ℕ = getD bytes at 0 in
-          let w = both (leb k 6) (leb (bodyLength k) (length bytes - (at + 1))) (sym (whole-is h) ∙ e) in
+          let w = both (isCall k) (leb (bodyLength k) (length bytes - (at + 1))) (sym (whole-is h) ∙ e) in
           let fits : bodyLength k ≤ length bytes - (at + 1) = leb-true (bodyLength k) (length bytes - (at + 1)) (w .1) in
-          record { inside = h; kind = leb-true k 6 (w .0); fits = omega arith }
+          record { inside = h; kind = w .0; fits = omega arith }
       go false t =
           let f : beginsWhole (drop at bytes) ≡ false = none-past bytes at (ltb-false at (length bytes) t) in
           let z : _≡_ {A = ℕ} 0 1 = cc in

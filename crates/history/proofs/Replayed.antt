@@ -5,9 +5,9 @@ use mathlib.Core.List.{List, [], _∷_, _++_, append-assoc}
 use native.Mathlib.Omega.{arith}
 use lib.ListN.{length, take, drop, length-append}
 use lib.Seq.{take-at, drop-at}
-use lib.Dec.{T, leb, eqb, eqb→eq}
+use lib.Dec.{T, eqb, eqb→eq}
 use borrow.Author.Tests.{le-leb}
-use Rattle.meaning.specs.Calls.{Operation, openPlan, addSet, replaceSet, removeSet, addRule, changeRule, removeRule, Call, kindOf, bodyLength}
+use Rattle.meaning.specs.Calls.{Operation, openPlan, addSet, replaceSet, removeSet, addRule, changeRule, removeRule, Call, isCall, kindOf, bodyLength}
 use Rattle.meaning.specs.Records.{operationOf}
 use Rattle.meaning.proofs.Tests.{is-true, and-left, and-right}
 use Rattle.changes.specs.Promise.{memoryAfter, Provides, calls, Chain, done, next}
@@ -46,8 +46,8 @@ replayed m bytes numbers after written count r b cs rest first accepted =
 
 -- EVERY LIST OF WHOLE CALLS IS CARRIED OUT
 
-kind-back : (o : Operation) → (operationOf (kindOf o) ≡ o) × T (leb (kindOf o) 6)
-unfolding operationOf
+kind-back : (o : Operation) → (operationOf (kindOf o) ≡ o) × T (isCall (kindOf o))
+unfolding operationOf isCall
 kind-back openPlan = (refl, tt)
 kind-back addSet = (refl, tt)
 kind-back replaceSet = (refl, tt)
@@ -68,7 +68,7 @@ runs-every (c ∷ cs) t rest =
     let left : drop (bodyLength k) (c .body ++ behind) ≡ behind = drop-at (c .body) behind (bodyLength k) long in
     rw (
       bytes,
-      is-true (leb k 6) (kind-back (c .operation) .1),
+      is-true (isCall k) (kind-back (c .operation) .1),
       le-leb (bodyLength k) (length (c .body ++ behind)) fits,
       front,
       left,

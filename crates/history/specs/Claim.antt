@@ -8,6 +8,7 @@ use mathlib.Core.List.{List, [], _∷_, _++_, List·Memᴰ}
 use mathlib.Core.Option.{none, some}
 use lib.ListN.{length, take, getD, getElem?}
 use lib.Dec.{T, eqb}
+use Rattle.meaning.specs.Sizes.{SET-NUMBER-BYTES, SET-BODY, DIGIT-ROOM}
 use Rattle.meaning.specs.Basics.{all, count, isSome}
 use Rattle.meaning.specs.Refusals.{PLAN, IN-USE, SHORT}
 use Rattle.meaning.specs.Settings.{roomsOf}
@@ -62,7 +63,7 @@ pub record ReadsAs (m : List ℕ) (opening : List ℕ) (past : List Call) (p : P
   pub content-is : (n : ℕ) (out left : List ℕ) (r : Written) → ContentPromise m n out left r
       → GivesRead (contentRead (roomsOf (openedRooms opening) .sets) (length out) n (lastContent n past)) out left r
   -- a set that the calls hold reads back
-  pub reads-back : (n : ℕ) (content out left : List ℕ) (r : Written) → lastContent n past ≡ some content → 47 ≤ length out → ContentPromise m n out left r
+  pub reads-back : (n : ℕ) (content out left : List ℕ) (r : Written) → lastContent n past ≡ some content → SET-BODY ≤ length out → ContentPromise m n out left r
       → GivesRead (read (n / 256 ∷ n % 256 ∷ content)) out left r
   pub referrers-are : (n : ℕ) (r : Counted) → ReferrersPromise m n r
       → countOf r ≡ countRead (roomsOf (openedRooms opening) .sets) n (lastContent n past) (naming n (listing p))
@@ -129,11 +130,11 @@ pub record Claim (size : ℕ) (cs : List Call) (numbers m : List ℕ) : Type 0 w
   -- "what is listed and read is exactly what these calls put in"
   pub reads : ReadsAs m (put-in .opening) (accepted (lacksBytes size) cs) (put-in .plan)
   -- "A set that is held can be removed exactly when no rule names it"
-  pub removable : (b left : List ℕ) (r : ℕ) → 2 ≤ length b → T (isSome (lastContent (setNumber b) (accepted (lacksBytes size) cs)))
+  pub removable : (b left : List ℕ) (r : ℕ) → SET-NUMBER-BYTES ≤ length b → T (isSome (lastContent (setNumber b) (accepted (lacksBytes size) cs)))
       → Provides (calls removeSet b) m left r → Removes m left (put-in .plan) (setNumber b) r
   -- "for any number that RANGE doesn't refuse and whose chosen rule has conditioning actions"
   pub conditions : (class : ℕ) (ds : List ℕ) (r : Rule) (content : List ℕ) → Conditions (put-in .plan) class ds r content
-      → (out left : List ℕ) (w : Written) → 35 ≤ length out → ConditionedPromise m class ds out left w → ConditionsAs m class ds r content w
+      → (out left : List ℕ) (w : Written) → DIGIT-ROOM ≤ length out → ConditionedPromise m class ds out left w → ConditionsAs m class ds r content w
 
 -- DEMAND 3: "any list of calls .., refused ones included, all on one plan memory and beginning with an accepted opening. Each call gets the plan as
 -- the last one left it"

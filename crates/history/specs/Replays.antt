@@ -6,15 +6,15 @@ use mathlib.Core.List.{List, [], _∷_, _++_}
 use lib.ListN.{length, take, drop}
 use lib.Dec.{T, leb, eqb}
 use Rattle.meaning.specs.Basics.{if_then_else_, all, writtenOver}
-use Rattle.meaning.specs.Calls.{Call, kindOf, bodyLength}
+use Rattle.meaning.specs.Calls.{Call, isCall, kindOf, bodyLength}
 use Rattle.meaning.specs.Records.{callOf}
 use Rattle.changes.specs.Promise.{numberFor, memoryAfter}
 
--- the bytes begin with a whole record of kinds 0 to 6
+-- the bytes begin with a whole record of a call
 abbrev pub beginsCall : ℕ → List ℕ → Bool
-beginsCall k bytes = leb k 6 && leb (bodyLength k) (length bytes)
+beginsCall k bytes = isCall k && leb (bodyLength k) (length bytes)
 
--- the calls that bytes hold, at most `room` of them: up to the first byte that is no kind 0 to 6, or the first record that is cut
+-- the calls that bytes hold, at most `room` of them: up to the first byte that is no kind of a call, or the first record that is cut
 abbrev pub callsIn : ℕ → List ℕ → List Call
 callsIn zero bytes = []
 callsIn (suc room) [] = []

@@ -8,9 +8,7 @@ ghost use Rattle.changes.specs.Promise.{Provides};
 ghost use Rattle.history.specs.Replays.{Replays};
 ghost use Rattle.history.specs.Parts.{beginsWhole};
 use meaning::Provisioned;
-
-// The last kind that is a provisioning call.
-const LAST_CALL: u8 = 6;
+use meaning::kinds;
 
 // Whether a whole record of a call begins at `at`.
 fn is_whole(calls: &[u8], at: usize) -> bool
@@ -20,30 +18,30 @@ fn is_whole(calls: &[u8], at: usize) -> bool
         return false;
     }
     let kind = calls[at];
-    if LAST_CALL < kind {
+    if !changes::is_call(kind) {
         return false;
     }
     let body = at + 1;
     changes::body_length(kind) <= calls.len() - body
 }
 
-// The call of a kind, 0 to 6.
+// The call of a kind.
 fn carry_out(plan: &mut [u8], kind: u8, body: &[u8]) -> Provisioned
     ensures { λ r. ⌜ Provides (callOf kind (now (body .entry))) (now (plan .entry)) (now (plan .exit)) (numberOfProvisioned r) ⌝ }
 {
     match kind {
-        0 => provision::open(plan, body),
-        1 => provision::add_set(plan, body),
-        2 => provision::replace_set(plan, body),
-        3 => provision::remove_set(plan, body),
-        4 => provision::add_rule(plan, body),
-        5 => provision::change_rule(plan, body),
+        kinds::OPEN_PLAN => provision::open(plan, body),
+        kinds::ADD_SET => provision::add_set(plan, body),
+        kinds::REPLACE_SET => provision::replace_set(plan, body),
+        kinds::REMOVE_SET => provision::remove_set(plan, body),
+        kinds::ADD_RULE => provision::add_rule(plan, body),
+        kinds::CHANGE_RULE => provision::change_rule(plan, body),
         _ => provision::remove_rule(plan, body),
     }
 }
 
-// Runs the calls of a list of house records, of kinds 0 to 6, on one plan memory, and writes the number of each. It ends before the first byte that is no such
-// kind, before the first record that is cut, and where `numbers` is full.
+// Runs the calls that a list of house records holds, on one plan memory, and writes the number of each. It ends before the first byte that is no kind of a
+// call, before the first record that is cut, and where `numbers` is full.
 pub fn replay(plan: &mut [u8], calls: &[u8], numbers: &mut [u8]) -> usize
     ensures { λ r. ⌜ Replays (now (plan .entry)) (now (calls .entry)) (now (numbers .entry)) (now (plan .exit)) (now (numbers .exit)) r ⌝ }
 {

@@ -7,6 +7,7 @@ use mathlib.Core.Option.{none, some}
 use native.Mathlib.Nat.{not-suc-le-zero, le-of-suc-le-suc, sub-zero}
 use native.Mathlib.Omega.{arith}
 use lib.ListN.{length, take, drop, getD, getElem?, replicate, length-map, List·getD-map}
+use Rattle.meaning.specs.Sizes.{CLASS-AT, PREFIX-AT, PREFIX-DIGITS-AT, LENGTH-AT}
 use Rattle.meaning.specs.Basics.{writtenOver, padded}
 use Rattle.meaning.specs.Refusals.{PLAN, RANGE}
 use Rattle.meaning.specs.Filters.{Filter, filterOf}
@@ -83,19 +84,19 @@ pub copied-padded : (n : ℕ) (xs : List ℕ) → writtenOver xs (replicate n 0)
 copied-padded n xs = ap (λ (ys : List ℕ). xs ++ ys) (drop-replicate (length xs) n 0)
 
 -- as it is read from its slot: n is its prefix's length, and `copied` its prefix over unused bytes
-pub rule-read : (m s copied : List ℕ) (k n : ℕ) (set : SetNumber) → k < ruleCount m → RuleSlot (rulePlaced m k) s → n ≡ getD s 1 0
-    → copied ≡ writtenOver (take (2 + n - 2) (drop 2 s)) (replicate 16 0) → set ≡ setOf (rulePlaced m k .set)
-    → record { refusal = 0; class = getD s 0 0; digits = getD s 1 0; prefix = copied; length = getD s 18 0; set = set } ≡ ruleListed (ruleAtPlace (some (planOf m)) k)
+pub rule-read : (m s copied : List ℕ) (k n : ℕ) (set : SetNumber) → k < ruleCount m → RuleSlot (rulePlaced m k) s → n ≡ getD s PREFIX-AT 0
+    → copied ≡ writtenOver (take (PREFIX-DIGITS-AT + n - PREFIX-DIGITS-AT) (drop PREFIX-DIGITS-AT s)) (replicate 16 0) → set ≡ setOf (rulePlaced m k .set)
+    → record { refusal = 0; class = getD s CLASS-AT 0; digits = getD s PREFIX-AT 0; prefix = copied; length = getD s LENGTH-AT 0; set = set } ≡ ruleListed (ruleAtPlace (some (planOf m)) k)
 unfolding filterOf
 rule-read m s copied k n set below slot n-is copied-is set-is =
     let f : Filter = filterIn (rulePlaced m k) in
-    let c : getD s 0 0 ≡ f .class = ap (λ (g : Filter). g .class) (slot .filter) in
-    let d : getD s 1 0 ≡ length (f .prefix) = prefix-length (rulePlaced m k) s (getD s 1 0) slot refl .is in
-    let w : 2 + n - 2 ≡ getD s 1 0 = omega (arith, n-is) in
-    let ds : take (2 + n - 2) (drop 2 s) ≡ f .prefix =
-    ap (λ (j : ℕ). take j (drop 2 s)) w ∙ (sym (prefix-is s (slot .bytes)) ∙ ap (λ (g : Filter). g .prefix) (slot .filter)) in
+    let c : getD s CLASS-AT 0 ≡ f .class = ap (λ (g : Filter). g .class) (slot .filter) in
+    let d : getD s PREFIX-AT 0 ≡ length (f .prefix) = prefix-length (rulePlaced m k) s (getD s PREFIX-AT 0) slot refl .is in
+    let w : PREFIX-DIGITS-AT + n - PREFIX-DIGITS-AT ≡ getD s PREFIX-AT 0 = omega (arith, n-is) in
+    let ds : take (PREFIX-DIGITS-AT + n - PREFIX-DIGITS-AT) (drop PREFIX-DIGITS-AT s) ≡ f .prefix =
+    ap (λ (j : ℕ). take j (drop PREFIX-DIGITS-AT s)) w ∙ (sym (prefix-is s (slot .bytes)) ∙ ap (λ (g : Filter). g .prefix) (slot .filter)) in
     let p : copied ≡ padded 16 (f .prefix) = copied-is ∙ (ap (λ (xs : List ℕ). writtenOver xs (replicate 16 0)) ds ∙ copied-padded 16 (f .prefix)) in
-    let l : getD s 18 0 ≡ f .len = ap (λ (g : Filter). g .len) (slot .filter) in
-    let read : record { refusal = 0; class = getD s 0 0; digits = getD s 1 0; prefix = copied; length = getD s 18 0; set = set } ≡ ruleListed (0, some (listed (rulePlaced m k))) =
+    let l : getD s LENGTH-AT 0 ≡ f .len = ap (λ (g : Filter). g .len) (slot .filter) in
+    let read : record { refusal = 0; class = getD s CLASS-AT 0; digits = getD s PREFIX-AT 0; prefix = copied; length = getD s LENGTH-AT 0; set = set } ≡ ruleListed (0, some (listed (rulePlaced m k))) =
     λ i. record { refusal = 0; class = c i; digits = d i; prefix = p i; length = l i; set = set-is i } in
     read ∙ ap ruleListed (sym (place-there m k below))

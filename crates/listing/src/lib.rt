@@ -14,18 +14,13 @@ use meaning::ListedRule;
 use meaning::Refusal;
 use meaning::RulePlace;
 use meaning::SetNumber;
-
-// Where a filter has its prefix's length, its prefix and its own length.
-const COUNT: usize = 1;
-
-const PREFIX: usize = 2;
-
-const LENGTH: usize = 18;
-
-// The refusals.
-const PLAN: u8 = 3;
-
-const RANGE: u8 = 5;
+use meaning::refusals::ACCEPTED;
+use meaning::refusals::PLAN;
+use meaning::refusals::RANGE;
+use meaning::sizes::CLASS_AT;
+use meaning::sizes::LENGTH_AT;
+use meaning::sizes::PREFIX_AT;
+use meaning::sizes::PREFIX_DIGITS_AT;
 
 // THE COUNT OF RULES
 
@@ -69,14 +64,14 @@ fn held_at(plan: &[u8], place: RulePlace) -> ListedRule
     ensures { λ r. ⌜ r ≡ ruleListed (ruleAtPlace (some (planOf (now (plan .entry)))) (place .0)) ⌝ }
 {
     let slot = choice::rule_slot(plan, place);
-    let class = slot[0];
-    let digits = slot[COUNT];
-    let length = slot[LENGTH];
-    let end = PREFIX + buffer::wide(digits);
+    let class = slot[CLASS_AT];
+    let digits = slot[PREFIX_AT];
+    let length = slot[LENGTH_AT];
+    let end = PREFIX_DIGITS_AT + buffer::wide(digits);
     let mut prefix = [0u8; 16];
-    buffer::copy(&mut prefix, &slot[PREFIX..end]);
+    buffer::copy(&mut prefix, &slot[PREFIX_DIGITS_AT..end]);
     ListedRule {
-        refusal: 0,
+        refusal: ACCEPTED,
         class: class,
         digits: digits,
         prefix: prefix,

@@ -9,6 +9,7 @@ use mathlib.Core.List.{List, [], _∷_, _++_, map, reverse}
 use mathlib.Core.Option.{Option, none, some}
 use lib.ListN.{take, drop, set, replicate}
 use lib.Dec.{ltb}
+use Rattle.meaning.specs.Sizes.{SETTINGS-BYTES, OPENING-BYTES, CONTENT-BYTES, SET-BODY, NUMBER-BYTES, LONGEST-RECORD, DIGIT-ROOM, RULES-AT, ROOMS-AT, SETTINGS-AT, SETTINGS-END, SETS-AT, CONTENT-AT, COUNT-AT, SET-WIDTH, RULE-WIDTH, RUN-SETS, RUN-RULES, RUN-BYTES}
 use Rattle.meaning.specs.Basics.{if_then_else_, writtenOver, padded}
 use Rattle.meaning.specs.Settings.{roomsOf, roomsInRange, bytesNeeded, settingsOf, settingsInRange, lookupOf, entityInRange, asdOrGrnInRange, lookupInRange, numberOf, numberInRange, dialledInRange}
 use Rattle.meaning.specs.Filters.{filterOf, filterInRange, fitsNumber, rank, compareFilters}
@@ -21,23 +22,44 @@ use Rattle.meaning.specs.Plan.{Plan, settingsIn, referrers, fresh, withS
 use Rattle.meaning.specs.Answer.{Answer, refused, unserved, served, outgoingClass, formatted, afterServices, answerBy, answerOf, answer}
 use Rattle.meaning.specs.View.{view, answerByView}
 use Rattle.meaning.specs.Reads.{Read, Count, Listed, conditionedBy, conditioned, stretchBy, stretch, setContent, referrerCount, listing, ruleCount, ruleAtPlace}
-use Rattle.meaning.specs.Calls.{Call, bodyLength, openingLines, addSetLines, replaceSetLines, removeSetLines, addRuleLines, changeRuleLines, removeRuleLines, refusal, lacksBytes, after, putIn, refusalsFrom}
+use Rattle.meaning.specs.Calls.{Call, OPEN-PLAN, ADD-SET, REPLACE-SET, REMOVE-SET, ADD-RULE, CHANGE-RULE, REMOVE-RULE, NUMBER, REFS, LIST, kinds, isKind, isCall, bodyLength, openingLines, addSetLines, replaceSetLines, removeSetLines, addRuleLines, changeRuleLines, removeRuleLines, refusal, lacksBytes, after, putIn, refusalsFrom}
 use Rattle.meaning.specs.LookBack.{accepted, lastOpening, lastContent, lastSet}
 use Rattle.meaning.specs.History.{rising}
-use Rattle.meaning.specs.Records.{decimal, digitText, okLine, noLine, numberLine, refsLine, listedLine, endLine, lacksProgramRoom, operationOf, callOf, recordText, recordPlan, fileText, End, fileEnd}
+use Rattle.meaning.specs.Records.{decimal, digitText, okLine, noLine, numberLine, refsLine, listedLine, endLine, lacksProgramRoom, operationOf, callOf, recordText, recordHouse, fileText, End, fileEnd}
 use Rattle.meaning.specs.Answers.{codeOf, classOf, outgoingOf, numberOfRefusal}
 use Rattle.meaning.specs.declared.ClassOf.{ClassOf}
 use Rattle.meaning.specs.declared.ClassOf.the-variants.{Known, Unknown as UnknownClass}
 use Rattle.meaning.specs.declared.OutgoingOf.{OutgoingOf}
 use Rattle.meaning.specs.declared.OutgoingOf.the-variants.{Given, AsIncoming, Unknown as UnknownOutgoing}
 use Rattle.meaning.specs.declared.Refusal.the-variants.{Cut, Kind, Plan as PlanRefused, Room, Range, Groups, Taken, Absent, Misfit, Full, InUse, Short, Long}
-use Rattle.meaning.specs.Examples.{string}
+use Rattle.meaning.specs.Examples.{string, MEMORY}
 use Rattle.meaning.specs.Run.{ascii, file, run, nineLines}
 
 -- every definition that is computed with
 everything : ℕ
-unfolding roomsOf roomsInRange bytesNeeded settingsOf settingsInRange lookupOf entityInRange asdOrGrnInRange lookupInRange numberOf numberInRange dialledInRange filterOf filterInRange fitsNumber rank compareFilters firstLargest weight chosenPlace chosen valueOf actionsOf mostOf caInRange contentInRange nothingWithoutCA oneFormat formatStands fpfxFirst oneXAction precedence isBacked formattingBacked groupsHold fpfxMeetsPrefix casFit fit stretchOf valueFrom conditionedFrom atStart responded inprtg rnSet cdpnnp asdlkup grnlkup cdial carryOut eightPlaces valueToSend referrers fresh withSlot withRules contentPasses codePasses rulesFit codesPass sound refused unserved served outgoingClass formatted afterServices answerBy answerOf view answerByView conditionedBy stretchBy listing bodyLength openingLines addSetLines replaceSetLines removeSetLines addRuleLines changeRuleLines removeRuleLines refusal after decimal digitText okLine noLine numberLine refsLine listedLine endLine lacksProgramRoom operationOf recordText recordPlan fileText fileEnd
+unfolding roomsOf roomsInRange bytesNeeded settingsOf settingsInRange lookupOf entityInRange asdOrGrnInRange lookupInRange numberOf numberInRange dialledInRange filterOf filterInRange fitsNumber rank compareFilters firstLargest weight chosenPlace chosen valueOf actionsOf mostOf caInRange contentInRange nothingWithoutCA oneFormat formatStands fpfxFirst oneXAction precedence isBacked formattingBacked groupsHold fpfxMeetsPrefix casFit fit stretchOf valueFrom conditionedFrom atStart responded inprtg rnSet cdpnnp asdlkup grnlkup cdial carryOut eightPlaces valueToSend referrers fresh withSlot withRules contentPasses codePasses rulesFit codesPass sound refused unserved served outgoingClass formatted afterServices answerBy answerOf view answerByView conditionedBy stretchBy listing isKind isCall bodyLength openingLines addSetLines replaceSetLines removeSetLines addRuleLines changeRuleLines removeRuleLines refusal after decimal digitText okLine noLine numberLine refsLine listedLine endLine lacksProgramRoom operationOf recordText recordHouse fileText fileEnd
 everything = 0
+
+-- THE SIZES: the sums of specs/Sizes.antt are document 01's numbers, and docs/LAYOUT.md's
+
+-- "Kind | Body bytes", 0 to 9, and no other kind has a body
+pub body-bytes : map bodyLength (kinds ++ (10 ∷ 255 ∷ [])) ≡ 40 ∷ 47 ∷ 47 ∷ 2 ∷ 21 ∷ 21 ∷ 19 ∷ 73 ∷ 2 ∷ 0 ∷ 0 ∷ 0 ∷ []
+unfolding everything
+body-bytes = refl
+
+-- "64 bytes + 48 a set + 24 a rule of the rooms asked; digit buffer under 35, or 47 for a set's content"
+pub room-asked : (bytesNeeded (record { sets = 0; rules = 0 }) ∷ SET-WIDTH ∷ RULE-WIDTH ∷ DIGIT-ROOM ∷ SET-BODY ∷ []) ≡ 64 ∷ 48 ∷ 24 ∷ 35 ∷ 47 ∷ []
+unfolding everything
+room-asked = refl
+
+-- "A program run uses at most 64 sets and 512 rules", the longest record, and the examples' memory
+pub run-asked : (RUN-SETS ∷ RUN-RULES ∷ RUN-BYTES ∷ LONGEST-RECORD ∷ MEMORY ∷ []) ≡ 64 ∷ 512 ∷ 15424 ∷ 74 ∷ 640 ∷ []
+unfolding everything
+run-asked = refl
+
+-- the places in a set slot and in the header (docs/LAYOUT.md)
+pub places : (RULES-AT ∷ ROOMS-AT ∷ SETTINGS-AT ∷ SETTINGS-END ∷ SETS-AT ∷ CONTENT-AT ∷ COUNT-AT ∷ []) ≡ 4 ∷ 8 ∷ 12 ∷ 48 ∷ 64 ∷ 1 ∷ 46 ∷ []
+places = refl
 
 -- THE RUN
 
@@ -72,49 +94,50 @@ two n = n / 256 ∷ n % 256 ∷ []
 -- rooms, country code, DFLTRN, the delimiters, the four answers
 abbrev pub opening : ℕ → ℕ → String → String → String → String → List ℕ → List ℕ
 opening sets rules country dfltrn a b answers =
-    0
+    OPEN-PLAN
     ∷ (two sets
-    ++ (two rules ++ (string 3 (digits country) ++ (string 15 (digits dfltrn) ++ (string 5 (digits a) ++ (string 5 (digits b) ++ answers))))))
+    ++ (two rules ++ padded SETTINGS-BYTES (string 3 (digits country) ++ (string 15 (digits dfltrn) ++ (string 5 (digits a) ++ (string 5 (digits b) ++ answers))))))
 
 -- number, class, CAs as codes and counts, SAs, FAs
 abbrev pub setRecord : ℕ → ℕ → ℕ → List ℕ → List ℕ → List ℕ → List ℕ
-setRecord kind n class cas sas fas = kind ∷ (two n ++ (class ∷ (padded 24 cas ++ (padded 8 sas ++ padded 12 fas))))
+setRecord kind n class cas sas fas = kind ∷ (two n ++ padded CONTENT-BYTES (class ∷ (padded 24 cas ++ (padded 8 sas ++ padded 12 fas))))
 
 abbrev pub newSet : ℕ → ℕ → List ℕ → List ℕ → List ℕ → List ℕ
-newSet n class cas sas fas = setRecord 1 n class cas sas fas
+newSet n class cas sas fas = setRecord ADD-SET n class cas sas fas
 
 abbrev pub replacedSet : ℕ → ℕ → List ℕ → List ℕ → List ℕ → List ℕ
-replacedSet n class cas sas fas = setRecord 2 n class cas sas fas
+replacedSet n class cas sas fas = setRecord REPLACE-SET n class cas sas fas
 
 abbrev pub removedSet : ℕ → List ℕ
-removedSet n = 3 ∷ two n
+removedSet n = REMOVE-SET ∷ two n
 
 -- class, prefix, length
 abbrev pub filter : ℕ → String → ℕ → List ℕ
 filter class prefix len = class ∷ (string 16 (digits prefix) ++ (len ∷ []))
 
 abbrev pub newRule : ℕ → String → ℕ → ℕ → List ℕ
-newRule class prefix len n = 4 ∷ (filter class prefix len ++ two n)
+newRule class prefix len n = ADD-RULE ∷ (filter class prefix len ++ two n)
 
 abbrev pub changedRule : ℕ → String → ℕ → ℕ → List ℕ
-changedRule class prefix len n = 5 ∷ (filter class prefix len ++ two n)
+changedRule class prefix len n = CHANGE-RULE ∷ (filter class prefix len ++ two n)
 
 abbrev pub removedRule : ℕ → String → ℕ → List ℕ
-removedRule class prefix len = 6 ∷ filter class prefix len
+removedRule class prefix len = REMOVE-RULE ∷ filter class prefix len
 
 -- class, digits, lookup kind, entity, ASD, GRN
 abbrev pub numberWith : ℕ → String → ℕ → String → String → String → List ℕ
 numberWith class ds kind entity asd grn =
-    7 ∷ class ∷ (string 32 (digits ds) ++ (kind ∷ (string 15 (digits entity) ++ (string 10 (digits asd) ++ string 10 (digits grn)))))
+    NUMBER
+    ∷ padded NUMBER-BYTES (class ∷ (string 32 (digits ds) ++ (kind ∷ (string 15 (digits entity) ++ (string 10 (digits asd) ++ string 10 (digits grn))))))
 
 abbrev pub number : ℕ → String → ℕ → String → List ℕ
 number class ds kind entity = numberWith class ds kind entity "" ""
 
 abbrev pub refs : ℕ → List ℕ
-refs n = 8 ∷ two n
+refs n = REFS ∷ two n
 
 abbrev pub list : List ℕ
-list = 9 ∷ []
+list = LIST ∷ []
 
 -- a record with another byte at a place
 abbrev pub but : ℕ → ℕ → List ℕ → List ℕ
@@ -159,8 +182,11 @@ abbrev pub asCall : List ℕ → Call
 asCall [] = callOf 0 []
 asCall (k ∷ body) = callOf k body
 
+abbrev pub LARGEST : ℕ
+LARGEST = bytesNeeded (record { sets = 1024; rules = 4096 })
+
 abbrev pub behind : List (List ℕ) → Option Plan
-behind rs = putIn (lacksBytes 147520) (map asCall rs)
+behind rs = putIn (lacksBytes LARGEST) (map asCall rs)
 
 -- the number of each call, over a memory of so many bytes
 abbrev pub numbersOver : ℕ → List (List ℕ) → List ℕ
@@ -198,7 +224,7 @@ abbrev pub stretchesOver : List (List ℕ) → ℕ → List ℕ → List ℕ →
 stretchesOver rs class ds [] = []
 stretchesOver rs class ds (v ∷ vs) = shownStretch (stretch (behind rs) class ds v) ++ stretchesOver rs class ds vs
 
--- refusal, the 47 bytes
+-- refusal, the bytes of the body
 abbrev pub contentOver : List (List ℕ) → ℕ → ℕ → List ℕ
 contentOver rs size n = readFields (setContent (behind rs) size n)
 
@@ -287,7 +313,7 @@ carried =
     "ok\nok\nok\n4 1 1 2 11234567890123456789012345678901\nno 13\n3 1 1 2 -\n2 1 4 1 -\nno 12\n" refl
     -- the actions carried out, in eight places
     ∷ row
-    (answeredOver (plain ∷ newSet 0 255 dnxCcdef (1 ∷ 2 ∷ 4 ∷ 3 ∷ 5 ∷ []) (13 ∷ 4 ∷ 14 ∷ []) ∷ newRule 1 "" 0 0 ∷ []) 35 (numberWith 1 "87" 3 "1" "4" "6"))
+    (answeredOver (plain ∷ newSet 0 255 dnxCcdef (1 ∷ 2 ∷ 4 ∷ 3 ∷ 5 ∷ []) (13 ∷ 4 ∷ 14 ∷ []) ∷ newRule 1 "" 0 0 ∷ []) DIGIT-ROOM (numberWith 1 "87" 3 "1" "4" "6"))
     (0 ∷ 4 ∷ 1 ∷ 1 ∷ 5 ∷ 1 ∷ 2 ∷ 4 ∷ 3 ∷ 5 ∷ 0 ∷ 0 ∷ 0 ∷ 4 ∷ 8 ∷ 7 ∷ 6 ∷ []) refl
     ∷ []
 
@@ -402,32 +428,31 @@ ordered =
     -- CUT before PLAN
     ∷ writes ((3 ∷ 0 ∷ []) ∷ []) "no 1\n" refl
     -- CUT before RANGE, and nothing after it
-    ∷ writes (plain ∷ list ∷ take 40 (but 5 9 plain) ∷ []) "ok\nend 0\nno 1\n" refl
+    ∷ writes (plain ∷ list ∷ take OPENING-BYTES (but 5 9 plain) ∷ []) "ok\nend 0\nno 1\n" refl
     -- CUT of each kind, one byte short, and the whole body before any opening
     ∷ row
-    (numbersOver 640 ((0 ∷ replicate 39 0) ∷ (1 ∷ replicate 46 0) ∷ (2 ∷ replicate 46 0) ∷ (3 ∷ replicate 1 0) ∷ (4 ∷ replicate 20 0) ∷ (5 ∷ replicate 20 0) ∷ (6 ∷ replicate 18 0)
-    ∷ (0 ∷ replicate 40 0) ∷ (1 ∷ replicate 47 0) ∷ (2 ∷ replicate 47 0) ∷ (3 ∷ replicate 2 0) ∷ (4 ∷ replicate 21 0) ∷ (5 ∷ replicate 21 0) ∷ (6 ∷ replicate 19 0) ∷ []))
+    (numbersOver MEMORY (map (λ k. k ∷ replicate (bodyLength k - 1) 0) (take 7 kinds) ++ map (λ k. k ∷ replicate (bodyLength k) 0) (take 7 kinds)))
     (1 ∷ 1 ∷ 1 ∷ 1 ∷ 1 ∷ 1 ∷ 1 ∷ 5 ∷ 3 ∷ 3 ∷ 3 ∷ 3 ∷ 3 ∷ 3 ∷ []) refl
     -- bytes behind a body are not looked at
     ∷ row
-    (numbersOver 640 ((plain ++ (255 ∷ [])) ∷ (s1 0 ++ (255 ∷ [])) ∷ (newRule 1 "" 0 0 ++ (255 ∷ [])) ∷ (removedRule 1 "" 0 ++ (255 ∷ [])) ∷ (removedSet 0 ++ (255 ∷ [])) ∷ []))
+    (numbersOver MEMORY ((plain ++ (255 ∷ [])) ∷ (s1 0 ++ (255 ∷ [])) ∷ (newRule 1 "" 0 0 ++ (255 ∷ [])) ∷ (removedRule 1 "" 0 ++ (255 ∷ [])) ∷ (removedSet 0 ++ (255 ∷ [])) ∷ []))
     (0 ∷ 0 ∷ 0 ∷ 0 ∷ 0 ∷ []) refl
     -- ROOM at opening: 64 bytes, 48 a set and 24 a rule; RANGE first
-    ∷ row (numbersOver 639 (plain ∷ rooms 8 7 ∷ rooms 9 7 ∷ rooms 7 8 ∷ rooms 7 10 ∷ but 5 0 plain ∷ [])) (4 ∷ 0 ∷ 4 ∷ 0 ∷ 4 ∷ 5 ∷ []) refl
+    ∷ row (numbersOver (MEMORY - 1) (plain ∷ rooms 8 7 ∷ rooms 9 7 ∷ rooms 7 8 ∷ rooms 7 10 ∷ but 5 0 plain ∷ [])) (4 ∷ 0 ∷ 4 ∷ 0 ∷ 4 ∷ 5 ∷ []) refl
     -- a memory of exactly the bytes needed
-    ∷ row (numbersOver 640 (plain ∷ [])) (0 ∷ []) refl
+    ∷ row (numbersOver MEMORY (plain ∷ [])) (0 ∷ []) refl
     -- a number: CUT before PLAN
-    ∷ row (answeredOver [] 34 (take 73 (number 6 "" 0 ""))) (1 ∷ 0 ∷ 0 ∷ 0 ∷ 0 ∷ noActions) refl
+    ∷ row (answeredOver [] (DIGIT-ROOM - 1) (take NUMBER-BYTES (number 6 "" 0 ""))) (1 ∷ 0 ∷ 0 ∷ 0 ∷ 0 ∷ noActions) refl
     -- a number: PLAN before ROOM
-    ∷ row (answeredOver [] 34 (number 6 "" 0 "")) (3 ∷ 0 ∷ 0 ∷ 0 ∷ 0 ∷ noActions) refl
+    ∷ row (answeredOver [] (DIGIT-ROOM - 1) (number 6 "" 0 "")) (3 ∷ 0 ∷ 0 ∷ 0 ∷ 0 ∷ noActions) refl
     -- a number: CUT before ROOM
-    ∷ row (answeredOver (plain ∷ []) 34 (take 73 (number 6 "" 0 ""))) (1 ∷ 0 ∷ 0 ∷ 0 ∷ 0 ∷ noActions) refl
+    ∷ row (answeredOver (plain ∷ []) (DIGIT-ROOM - 1) (take NUMBER-BYTES (number 6 "" 0 ""))) (1 ∷ 0 ∷ 0 ∷ 0 ∷ 0 ∷ noActions) refl
     -- a number: ROOM under 35 bytes, before RANGE
-    ∷ row (answeredOver (plain ∷ []) 34 (number 6 "" 0 "")) (4 ∷ 0 ∷ 0 ∷ 0 ∷ 0 ∷ noActions) refl
+    ∷ row (answeredOver (plain ∷ []) (DIGIT-ROOM - 1) (number 6 "" 0 "")) (4 ∷ 0 ∷ 0 ∷ 0 ∷ 0 ∷ noActions) refl
     -- a number: no ROOM at 35 bytes, then RANGE
-    ∷ row (answeredOver (plain ∷ []) 35 (number 6 "" 0 "")) (5 ∷ 0 ∷ 0 ∷ 0 ∷ 0 ∷ noActions) refl
+    ∷ row (answeredOver (plain ∷ []) DIGIT-ROOM (number 6 "" 0 "")) (5 ∷ 0 ∷ 0 ∷ 0 ∷ 0 ∷ noActions) refl
     -- a number: bytes behind its body are not looked at
-    ∷ row (answeredOver (plain ∷ []) 35 (number 4 "" 0 "" ++ (255 ∷ []))) (0 ∷ 0 ∷ 4 ∷ 0 ∷ 0 ∷ noActions) refl
+    ∷ row (answeredOver (plain ∷ []) DIGIT-ROOM (number 4 "" 0 "" ++ (255 ∷ []))) (0 ∷ 0 ∷ 4 ∷ 0 ∷ 0 ∷ noActions) refl
     ∷ []
 
 -- THE READ CALLS AND THE LISTING
@@ -444,31 +469,31 @@ pub reads : List Row
 unfolding everything
 reads =
     -- conditioned: CC, AC, SN
-    row (conditionedOver threeSets 35 2 n15) (0 ∷ digits "553387654321") refl
+    row (conditionedOver threeSets DIGIT-ROOM 2 n15) (0 ∷ digits "553387654321") refl
     -- conditioned: CC, DN
-    ∷ row (conditionedOver threeSets 35 1 (digits "87654321")) (0 ∷ digits "5587654321") refl
+    ∷ row (conditionedOver threeSets DIGIT-ROOM 1 (digits "87654321")) (0 ∷ digits "5587654321") refl
     -- conditioned: ZN
-    ∷ row (conditionedOver (plain ∷ given (1 ∷ 2 ∷ 13 ∷ 0 ∷ []) [] [] ∷ newRule 5 "a" 0 0 ∷ []) 35 5 (digits "abcdef")) (0 ∷ digits "cdef") refl
+    ∷ row (conditionedOver (plain ∷ given (1 ∷ 2 ∷ 13 ∷ 0 ∷ []) [] [] ∷ newRule 5 "a" 0 0 ∷ []) DIGIT-ROOM 5 (digits "abcdef")) (0 ∷ digits "cdef") refl
     -- conditioned: at most 35 digits
     ∷ row
-    (conditionedOver (opening 8 8 "123" "" "" "" relay ∷ s1 0 ∷ newRule 1 "" 0 0 ∷ []) 35 1 (replicate 32 7))
+    (conditionedOver (opening 8 8 "123" "" "" "" relay ∷ s1 0 ∷ newRule 1 "" 0 0 ∷ []) DIGIT-ROOM 1 (replicate 32 7))
     (0 ∷ 1 ∷ 2 ∷ 3 ∷ replicate 32 7) refl
     -- conditioned: none in outcome 0
-    ∷ row (conditionedOver threeSets 35 3 n15) (0 ∷ []) refl
+    ∷ row (conditionedOver threeSets DIGIT-ROOM 3 n15) (0 ∷ []) refl
     -- conditioned: none in outcome 1
-    ∷ row (conditionedOver threeSets 35 0 n15) (0 ∷ []) refl
+    ∷ row (conditionedOver threeSets DIGIT-ROOM 0 n15) (0 ∷ []) refl
     -- conditioned: SHORT
-    ∷ row (conditionedOver threeSets 35 2 (digits "b339090")) (12 ∷ []) refl
+    ∷ row (conditionedOver threeSets DIGIT-ROOM 2 (digits "b339090")) (12 ∷ []) refl
     -- conditioned: PLAN, then ROOM
-    ∷ row (conditionedOver [] 34 2 n15) (3 ∷ []) refl
+    ∷ row (conditionedOver [] (DIGIT-ROOM - 1) 2 n15) (3 ∷ []) refl
     -- conditioned: ROOM under 35 bytes, before RANGE
-    ∷ row (conditionedOver threeSets 34 6 n15) (4 ∷ []) refl
+    ∷ row (conditionedOver threeSets (DIGIT-ROOM - 1) 6 n15) (4 ∷ []) refl
     -- conditioned: a class over 5
-    ∷ row (conditionedOver threeSets 35 6 n15) (5 ∷ []) refl
+    ∷ row (conditionedOver threeSets DIGIT-ROOM 6 n15) (5 ∷ []) refl
     -- conditioned: more than 32 digits
-    ∷ row (conditionedOver threeSets 35 1 (replicate 33 7)) (5 ∷ []) refl
+    ∷ row (conditionedOver threeSets DIGIT-ROOM 1 (replicate 33 7)) (5 ∷ []) refl
     -- conditioned: a byte over 15
-    ∷ row (conditionedOver threeSets 35 1 (8 ∷ 16 ∷ [])) (5 ∷ []) refl
+    ∷ row (conditionedOver threeSets DIGIT-ROOM 1 (8 ∷ 16 ∷ [])) (5 ∷ []) refl
     -- stretches of values 0 to 11: none for CC by CCDEF, for a value that no CA sets, and outside 1 to 10
     ∷ row
     (stretchesOver threeSets 2 n15 (0 ∷ 1 ∷ 2 ∷ 3 ∷ 4 ∷ 5 ∷ 6 ∷ 7 ∷ 8 ∷ 9 ∷ 10 ∷ 11 ∷ []))
@@ -488,17 +513,17 @@ reads =
     -- no stretch: no sound plan
     ∷ row (stretchesOver [] 2 n15 (2 ∷ [])) (0 ∷ 0 ∷ []) refl
     -- a set's content, as the 47 bytes of a kind 1 body
-    ∷ row (contentOver threeSets 47 1) (0 ∷ drop 1 (s1 1)) refl
+    ∷ row (contentOver threeSets SET-BODY 1) (0 ∷ drop 1 (s1 1)) refl
     -- a set's content: its number in two bytes
-    ∷ row (contentOver (rooms 300 1 ∷ s2 258 ∷ []) 47 258) (0 ∷ 1 ∷ 2 ∷ drop 3 (s2 0)) refl
+    ∷ row (contentOver (rooms 300 1 ∷ s2 258 ∷ []) SET-BODY 258) (0 ∷ 1 ∷ 2 ∷ drop 3 (s2 0)) refl
     -- a set's content: PLAN before ROOM
-    ∷ row (contentOver [] 46 1) (3 ∷ []) refl
+    ∷ row (contentOver [] (SET-BODY - 1) 1) (3 ∷ []) refl
     -- a set's content: ROOM under 47 bytes, before RANGE
-    ∷ row (contentOver threeSets 46 8) (4 ∷ []) refl
+    ∷ row (contentOver threeSets (SET-BODY - 1) 8) (4 ∷ []) refl
     -- a set's content: RANGE at the room
-    ∷ row (contentOver threeSets 47 8) (5 ∷ []) refl
+    ∷ row (contentOver threeSets SET-BODY 8) (5 ∷ []) refl
     -- a set's content: ABSENT
-    ∷ row (contentOver threeSets 47 7) (8 ∷ []) refl
+    ∷ row (contentOver threeSets SET-BODY 7) (8 ∷ []) refl
     -- the rules naming a set
     ∷ row (shownCount (referrerCount (behind threeSets) 1)) (0 ∷ 2 ∷ []) refl
     -- the rules naming a set: PLAN
@@ -542,7 +567,7 @@ reversed p = withRules (reverse (p .rules)) p
 
 -- the calls of some records that were accepted, the newest first
 abbrev pub past : List (List ℕ) → List Call
-past rs = accepted (lacksBytes 147520) (map asCall rs)
+past rs = accepted (lacksBytes LARGEST) (map asCall rs)
 
 -- the set number last accepted for a filter
 abbrev pub setLookedBack : List (List ℕ) → List ℕ → List ℕ
@@ -687,8 +712,8 @@ large =
     (λ p. file
     (shownPlace (ruleAtPlace (some p) 63) ∷ soundness unchanged (some p) ∷ risingListing unchanged (some p) ∷ risingListing reversed (some p)
     ∷ answeredByView (some p) (number 1 "1111111111111111111111111111111" 0 "")
-    ∷ answerFields (answer (some p) 35 (drop 1 (number 1 "1111111111111112222222222222222" 0 "")))
-    ∷ answerFields (answer (some p) 35 (drop 1 (number 1 "11" 0 "")))
+    ∷ answerFields (answer (some p) DIGIT-ROOM (drop 1 (number 1 "1111111111111112222222222222222" 0 "")))
+    ∷ answerFields (answer (some p) DIGIT-ROOM (drop 1 (number 1 "11" 0 "")))
     ∷ refusalsFrom lacksProgramRoom (some p) (asCall (newRule 1 "" 0 0) ∷ []) ∷ []))
     (behind sixtyFourNested))
     (file

@@ -10,7 +10,7 @@ use lib.Seq.{length-take-le}
 use lib.Dec.{T, leb, eqb, eqb→eq, leb→le}
 use borrow.Author.Tests.{eqb-true, eqb-false, leb-true, leb-false, le-leb, eq-eqb, ne-eqb}
 use Rattle.meaning.specs.Basics.{if_then_else_, all, any, allOf, isEmpty, isZero, within, part}
-use Rattle.meaning.specs.Actions.{CC, AC, SN, DN, ZN, CA, isIGN, isX, isFPFX, isCCDEF, valueOf, setsValue, mostOf, caInRange}
+use Rattle.meaning.specs.Actions.{CC, AC, SN, DN, ZN, IGN, LAST-COUNTED, SNX, ZNX, FPFX, CCDEF, CA, isIGN, isX, isFPFX, isCCDEF, valueOf, setsValue, mostOf, caInRange}
 use Rattle.meaning.specs.Groups.{isSet, oneFormat, formatStands}
 use Rattle.meaning.specs.Conditioning.{Stretch, stretchOf, digitsAt, valueFrom, conditionedFrom}
 use Rattle.meaning.specs.Stretches.{stretchAt, Covers, covered, fixed, ignored, matched, allLeft, takesNone}
@@ -26,18 +26,18 @@ record Inside (at : ℕ) (ds : List ℕ) (s : Stretch) : Type 0 where
   some : 1 ≤ s .count
 
 -- a fixed action takes at least one digit
-fixed-some : (a : CA) → T (ranged a) → a .code ≤ 10 → (1 ≤ a .count) × (a .count ≤ mostOf (a .code))
+fixed-some : (a : CA) → T (ranged a) → a .code ≤ LAST-COUNTED → (1 ≤ a .count) × (a .count ≤ mostOf (a .code))
 unfolding caInRange
 fixed-some a t h =
     let r : T (caInRange (a .code) (a .count)) = and-right (not (isZero (a .code))) (caInRange (a .code) (a .count)) t in
-    let w : T (within 1 (mostOf (a .code)) (a .count)) = rw (le-leb (a .code) 10 h) at r in (
+    let w : T (within 1 (mostOf (a .code)) (a .count)) = rw (le-leb (a .code) LAST-COUNTED h) at r in (
       leb→le 1 (a .count) (and-left (leb 1 (a .count)) (leb (a .count) (mostOf (a .code))) w),
       leb→le (a .count) (mostOf (a .code)) (and-right (leb 1 (a .count)) (leb (a .count) (mostOf (a .code))) w),
     )
 
 -- CC is set by code 2 or by CCDEF
 ccTest : ℕ → Bool
-ccTest c = not (eqb (valueOf c) 1) || (eqb c 2 || eqb c 15)
+ccTest c = not (eqb (valueOf c) CC) || (eqb c 2 || eqb c CCDEF)
 
 cc-codes : T (allBelow ccTest 16)
 unfolding ccTest valueOf
@@ -46,7 +46,7 @@ cc-codes = tt
 cc-code : (a : CA) → T (ranged a) → setsValue CC a ≡ true → isCCDEF a ≡ false → a .code ≡ 2
 unfolding ccTest
 cc-code a t q d =
-    let h : T (not (eqb (valueOf (a .code)) 1) || (eqb (a .code) 2 || eqb (a .code) 15)) = at-below ccTest 16 cc-codes (a .code) (ranged-below a t) in
+    let h : T (not (eqb (valueOf (a .code)) CC) || (eqb (a .code) 2 || eqb (a .code) CCDEF)) = at-below ccTest 16 cc-codes (a .code) (ranged-below a t) in
     go (eqb (a .code) 2) refl (rw (q, d) at h)
   where
     go : (b : Bool) → eqb (a .code) 2 ≡ b → T (b || false) → a .code ≡ 2
@@ -83,21 +83,21 @@ module _ (read : ℕ → Stretch) (prefix ds : List ℕ) where
   step : {at : ℕ} {a : CA} {xs : List CA} → T (ranged a) → Covers read prefix ds at (a ∷ xs) → Step at a xs
   unfolding valueOf
   step {at} {a} r (fixed c e h rest) =
-      let high : a .code ≤ 10 = leb→le (a .code) 10 (and-right (leb 2 (a .code)) (leb (a .code) 10) c) in
+      let high : a .code ≤ LAST-COUNTED = leb→le (a .code) LAST-COUNTED (and-right (leb 2 (a .code)) (leb (a .code) LAST-COUNTED) c) in
       record { takes = a .count; inside = h; rest = rest; own = λ v lo hi q. (reads a v at (a .count) q e, fixed-some a r high .0) }
   step {at} {a} r (ignored c h rest) =
       record {
         takes = a .count;
         inside = h;
         rest = rest;
-        own = λ v lo hi q. absurd (let z = value-at a 1 v (eqb→eq (a .code) 1 c) q in omega arith);
+        own = λ v lo hi q. absurd (let z = value-at a IGN v (eqb→eq (a .code) IGN c) q in omega arith);
       }
   step {at} {a} r (matched c e p h rest) =
       record {
         takes = length prefix;
         inside = h;
         rest = rest;
-        own = λ v lo hi q. absurd (let z = value-at a 14 v (eqb→eq (a .code) 14 c) q in omega arith);
+        own = λ v lo hi q. absurd (let z = value-at a FPFX v (eqb→eq (a .code) FPFX c) q in omega arith);
       }
   step {at} {a} r (allLeft c e h rest) =
       let whole : at + (length ds - at) ≡ length ds = omega arith in
@@ -108,7 +108,7 @@ module _ (read : ℕ → Stretch) (prefix ds : List ℕ) where
         takes = 0;
         inside = rw here (inside-digits rest);
         rest = rw here rest;
-        own = λ v lo hi q. absurd (let z = value-at a 15 v (eqb→eq (a .code) 15 c) q in omega arith);
+        own = λ v lo hi q. absurd (let z = value-at a CCDEF v (eqb→eq (a .code) CCDEF c) q in omega arith);
       }
 
   one-value : {at : ℕ} (xs : List CA) → Covers read prefix ds at xs → T (all ranged xs) → (v : ℕ) → 2 ≤ v → v ≤ 5 → T (isSet v xs) → Inside at ds (read v)
@@ -173,11 +173,11 @@ module _ (read : ℕ → Stretch) (prefix ds : List ℕ) where
           read-cc : setsValue CC a ≡ true → a .code ≡ 2 → 1 ≤ a .count → a .count ≤ 3 → {b : ℕ} → Covers read prefix ds b (a ∷ xs)
               → (1 ≤ read CC .count) × (read CC .count ≤ 3) × (read CC .start + read CC .count ≤ length ds)
           read-cc q two lo hi {b} (fixed c e h rest) = rw (reads a CC b (a .count) q e) (lo, hi, h)
-          read-cc q two lo hi (ignored c h rest) = absurd (omega (arith, eqb→eq (a .code) 1 c))
-          read-cc q two lo hi (matched c e p h rest) = absurd (omega (arith, eqb→eq (a .code) 14 c))
+          read-cc q two lo hi (ignored c h rest) = absurd (omega (arith, eqb→eq (a .code) IGN c))
+          read-cc q two lo hi (matched c e p h rest) = absurd (omega (arith, eqb→eq (a .code) FPFX c))
           read-cc q two lo hi (allLeft c e h rest) =
-              absurd (omega (arith, leb→le 11 (a .code) (and-left (leb 11 (a .code)) (leb (a .code) 13) c)))
-          read-cc q two lo hi (takesNone c rest) = absurd (omega (arith, eqb→eq (a .code) 15 c))
+              absurd (omega (arith, leb→le SNX (a .code) (and-left (leb SNX (a .code)) (leb (a .code) ZNX) c)))
+          read-cc q two lo hi (takesNone c rest) = absurd (omega (arith, eqb→eq (a .code) CCDEF c))
 
       go : (b : Bool) → setsValue CC a ≡ b → Covers read prefix ds at (a ∷ xs) → T (b || isSet CC xs)
           → ((b : ℕ) → Covers read prefix ds b xs → T (isSet CC xs) → (1 ≤ read CC .count) × (read CC .count ≤ 3) × (read CC .start + read CC .count ≤ length ds))

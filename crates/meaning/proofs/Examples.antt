@@ -17,7 +17,7 @@ use Rattle.meaning.specs.Plan.{fresh, withSlot, withRules}
 use Rattle.meaning.specs.Answer.{refused, unserved, served, outgoingClass, formatted, afterServices, answerBy, answerOf}
 use Rattle.meaning.specs.Reads.{conditionedBy}
 use Rattle.meaning.specs.Calls.{bodyLength, openingLines, addSetLines, addRuleLines, refusal, lacksBytes, refusalsFrom, after}
-use Rattle.meaning.specs.Examples.{Row, shown, table, Holds}
+use Rattle.meaning.specs.Examples.{MEMORY, Row, shown, table, Holds}
 
 sameList : List ℕ → List ℕ → Bool
 sameList [] [] = true
@@ -42,12 +42,12 @@ same-list (x ∷ xs) (y ∷ ys) t =
     ap₂ _∷_ (eqb→eq x y (and-left (eqb x y) (sameList xs ys) t)) (same-list xs ys (and-right (eqb x y) (sameList xs ys) t))
 
 rowHolds : Row → Bool
-rowHolds r = sameList (refusalsFrom (lacksBytes 640) none (r .calls)) (r .numbers) && sameList (shown (r .query) (r .calls)) (r .result)
+rowHolds r = sameList (refusalsFrom (lacksBytes MEMORY) none (r .calls)) (r .numbers) && sameList (shown (r .query) (r .calls)) (r .result)
 
 row-holds : (r : Row) → T (rowHolds r) → Holds r
 unfolding rowHolds
 row-holds r t =
-    let ns = sameList (refusalsFrom (lacksBytes 640) none (r .calls)) (r .numbers) in
+    let ns = sameList (refusalsFrom (lacksBytes MEMORY) none (r .calls)) (r .numbers) in
     let rs = sameList (shown (r .query) (r .calls)) (r .result) in
     record { numbers = same-list _ _ (and-left ns rs t); result = same-list _ _ (and-right ns rs t) }
 

@@ -9,6 +9,7 @@ use native.Mathlib.Omega.{arith}
 use lib.ListN.{length, take, drop, getD, length-take, List·getD-eq-default}
 use lib.Dec.{T, leb, ltb, leb→le}
 use borrow.Author.Tests.{le-ltb, le-leb, leb-true, leb-false}
+use Rattle.meaning.specs.Sizes.{DIGIT-ROOM}
 use Rattle.meaning.specs.Basics.{if_then_else_, all, any, allOf, isEmpty, isDigit, isZero, within, part, digitsOf, digitsInRange}
 use Rattle.meaning.specs.Refusals.{ROOM, RANGE, SHORT, firstOf}
 use Rattle.meaning.specs.Settings.{isClass, Settings, settingsOf, settingsRanges, settingsInRange, dialledRanges, dialledInRange}
@@ -84,13 +85,13 @@ digits-least lo hi (n ∷ ds) t h =
 
 module _ (p : Plan) (t : T (sound p)) (class : ℕ) (ds : List ℕ) (r : Rule) (content : List ℕ) (given : Conditions p class ds r content) where
   -- the conditioned call, where neither ROOM nor RANGE is drawn
-  conditioned-is : (size : ℕ) → 35 ≤ size
+  conditioned-is : (size : ℕ) → DIGIT-ROOM ≤ size
       → conditioned (some p) size class ds
       ≡ (if short (length (filterIn r .prefix)) (length ds) (actionsOf content .cas) then unread SHORT else
       read (conditionedFrom (actionsOf content .cas) (valueFrom (settingsIn p .country) (length (filterIn r .prefix)) ds (actionsOf content .cas))))
   unfolding conditionedBy
   conditioned-is size h =
-      rw (le-ltb size 35 h, is-true (dialledInRange class ds) (given .in-range), given .rule, given .set, given .actions)
+      rw (le-ltb size DIGIT-ROOM h, is-true (dialledInRange class ds) (given .in-range), given .rule, given .set, given .actions)
 
   stretch-is : short (length (filterIn r .prefix)) (length ds) (actionsOf content .cas) ≡ false → (v : ℕ) → v ≢ 0 → v ≤ 10
       → stretch (some p) class ds v ≡ stretchOf v (length (filterIn r .prefix)) (length ds) (actionsOf content .cas)
@@ -117,7 +118,7 @@ module _ (p : Plan) (t : T (sound p)) (class : ℕ) (ds : List ℕ) (r : Rule) (
       (given .actions) (groups p (sound-parts p t) class ds r content given 1)
 
   -- where conditioning is refused, and where it is not
-  by-short : (size : ℕ) → 35 ≤ size → (b : Bool) → short (length (filterIn r .prefix)) (length ds) (actionsOf content .cas) ≡ b
+  by-short : (size : ℕ) → DIGIT-ROOM ≤ size → (b : Bool) → short (length (filterIn r .prefix)) (length ds) (actionsOf content .cas) ≡ b
       → NumberHolds p class ds r content size
   by-short size h true e =
       let exact = short-exactly (filterIn r) (actionsOf content) class ds (ready p (sound-parts p t) class ds r content given) in

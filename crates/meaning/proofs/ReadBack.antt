@@ -9,6 +9,7 @@ use lib.ListN.{length, take, drop, getD, set, replicate, length-drop, take-appen
 use lib.Seq.{getD-set-same, getD-set-other, take-all}
 use lib.Dec.{T, T-not, eqb, isEq}
 use borrow.Author.Tests.{eqb-true, eqb-false}
+use Rattle.meaning.specs.Sizes.{ROOMS-BYTES, SETTINGS-BYTES, OPENING-BYTES}
 use Rattle.meaning.specs.Basics.{if_then_else_, any, isSome}
 use Rattle.meaning.specs.Refusals.{Line, firstOf}
 use Rattle.meaning.specs.Settings.{Rooms, roomsOf}
@@ -153,15 +154,15 @@ module _ (p : Plan) (b : List ℕ) (f : Filter) where
 
 -- THE OPENING IN FORCE
 
--- the 40 bytes of the opening of what was put in
+-- the body of the opening of what was put in
 abbrev pub openingIn : Option Plan → Option (List ℕ)
 openingIn none = none
 openingIn (some p) = some (p .rooms ++ p .settings)
 
-parts-whole : (b : List ℕ) → length b ≡ 40 → openedRooms b ++ openedSettings b ≡ b
+parts-whole : (b : List ℕ) → length b ≡ OPENING-BYTES → openedRooms b ++ openedSettings b ≡ b
 parts-whole b h =
-    let all : take 36 (drop 4 b) ≡ drop 4 b = take-all 36 (drop 4 b) (rw (length-drop 4 b) (omega arith)) in
-    rw all (take-append-drop 4 b)
+    let all : take SETTINGS-BYTES (drop ROOMS-BYTES b) ≡ drop ROOMS-BYTES b = take-all SETTINGS-BYTES (drop ROOMS-BYTES b) (rw (length-drop ROOMS-BYTES b) (omega arith)) in
+    rw all (take-append-drop ROOMS-BYTES b)
 
 opening-after : (p : Plan) (o : Operation) (b : List ℕ) → length b ≡ bodyLength (kindOf o)
     → openingIn (made o (some p) b) ≡ openingAfter o b (some (p .rooms ++ p .settings))

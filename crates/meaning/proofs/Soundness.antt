@@ -9,6 +9,7 @@ use lib.ListN.{length, take, drop, getD, set, replicate, length-set, length-repl
 use lib.Seq.{getD-set-same, getD-set-other, length-take-le}
 use lib.Dec.{T, T-not, not-T, eqb, leb, ltb, eqb→eq, eqb-refl, le→leb, leb→le, nleb→lt, nltb→le}
 use borrow.Author.Tests.{eqb-true, eqb-false}
+use Rattle.meaning.specs.Sizes.{ROOMS-BYTES, SETTINGS-BYTES, OPENING-BYTES, SET-NUMBER-BYTES, CONTENT-BYTES, SET-BODY, FILTER-BYTES, RULE-BODY}
 use Rattle.meaning.specs.Basics.{if_then_else_, all, any, allOf, isSome, part}
 use Rattle.meaning.specs.Refusals.{Line, firstOf}
 use Rattle.meaning.specs.Settings.{Rooms, roomsOf, roomsInRange, settingsInRange}
@@ -25,9 +26,9 @@ use Rattle.meaning.proofs.RuleLists.{same-filter, moved, all-insert, in
 -- WHAT SOUND MEANS, FIELD BY FIELD
 
 pub record Sound (p : Plan) : Type 0 where
-  pub rooms-size : length (p .rooms) ≡ 4
+  pub rooms-size : length (p .rooms) ≡ ROOMS-BYTES
   pub rooms-range : T (roomsInRange (p .rooms))
-  pub settings-size : length (p .settings) ≡ 36
+  pub settings-size : length (p .settings) ≡ SETTINGS-BYTES
   pub settings-range : T (settingsInRange (p .settings))
   pub room : length (p .slots) ≡ (roomsIn p) .sets
   pub pass : T (all slotPasses (p .slots))
@@ -39,8 +40,8 @@ pub record Sound (p : Plan) : Type 0 where
 pub sound-of : (p : Plan) → Sound p → T (sound p)
 unfolding sound
 sound-of p s =
-    let a : T (sized 4 (p .rooms)) = rw (s .rooms-size) tt in
-    let b : T (sized 36 (p .settings)) = rw (s .settings-size) tt in
+    let a : T (sized ROOMS-BYTES (p .rooms)) = rw (s .rooms-size) tt in
+    let b : T (sized SETTINGS-BYTES (p .settings)) = rw (s .settings-size) tt in
     let c : T (eqb (length (p .slots)) ((roomsIn p) .sets)) = rw (s .room) (eqb-refl ((roomsIn p) .sets)) in
     let d : T (leb (length (p .rules)) ((roomsIn p) .rules)) = le→leb _ _ (s .few) in
     each-all (soundRules p)
@@ -89,14 +90,14 @@ below-room p n s t = rw (s .room) (nleb→lt ((roomsIn p) .sets) n t)
 part-size : (b : List ℕ) (at n : ℕ) → at + n ≤ length b → length (part at n b) ≡ n
 part-size b at n h = length-take-le n (drop at b) (rw (length-drop at b) (omega arith))
 
-pub opening-sound : (lacks : List ℕ → Bool) (b : List ℕ) → length b ≡ 40 → firstOf (openingLines lacks b) ≡ 0 → Sound (fresh (openedRooms b) (openedSettings b))
+pub opening-sound : (lacks : List ℕ → Bool) (b : List ℕ) → length b ≡ OPENING-BYTES → firstOf (openingLines lacks b) ≡ 0 → Sound (fresh (openedRooms b) (openedSettings b))
 unfolding fresh openingLines codesPass rulesFit
 opening-sound lacks b h e =
     let ranges = not-not (roomsInRange (openedRooms b) && settingsInRange (openedSettings b)) (passed-at 0 (openingLines lacks b) tt e) in
     record {
-      rooms-size = length-take-le 4 b (omega arith);
+      rooms-size = length-take-le ROOMS-BYTES b (omega arith);
       rooms-range = and-left (roomsInRange (openedRooms b)) (settingsInRange (openedSettings b)) ranges;
-      settings-size = part-size b 4 36 (omega arith);
+      settings-size = part-size b ROOMS-BYTES SETTINGS-BYTES (omega arith);
       settings-range = and-right (roomsInRange (openedRooms b)) (settingsInRange (openedSettings b)) ranges;
       room = length-replicate ((roomsOf (openedRooms b)) .sets) none;
       pass = all-replicate slotPasses ((roomsOf (openedRooms b)) .sets) none tt;
@@ -129,17 +130,17 @@ slot-sound p n o q s t u h =
           (all-both q old (p .rules) u (s .fits));
     }
 
-content-passes : (b : List ℕ) → length b ≡ 47 → T (not (not (contentInRange (contentGiven b)))) → T (not (not (groupsHold (actionsOf (contentGiven b)))))
+content-passes : (b : List ℕ) → length b ≡ SET-BODY → T (not (not (contentInRange (contentGiven b)))) → T (not (not (groupsHold (actionsOf (contentGiven b)))))
     → T (slotPasses (some (contentGiven b)))
 unfolding contentPasses
 content-passes b h t u =
-    let size : T (sized 45 (contentGiven b)) = rw (part-size b 2 45 (omega arith)) tt in
-    and-both (sized 45 (contentGiven b)) _ size
+    let size : T (sized CONTENT-BYTES (contentGiven b)) = rw (part-size b SET-NUMBER-BYTES CONTENT-BYTES (omega arith)) tt in
+    and-both (sized CONTENT-BYTES (contentGiven b)) _ size
     (and-both (contentInRange (contentGiven b)) _ (not-not (contentInRange (contentGiven b)) t)
     (and-both (groupsHold (actionsOf (contentGiven b))) true (not-not (groupsHold (actionsOf (contentGiven b))) u) tt))
 
 module _ (p : Plan) (b : List ℕ) (s : Sound p) where
-  add-set-sound : length b ≡ 47 → firstOf (addSetLines p b) ≡ 0 → Sound (withSlot (setNumber b) (some (contentGiven b)) p)
+  add-set-sound : length b ≡ SET-BODY → firstOf (addSetLines p b) ≡ 0 → Sound (withSlot (setNumber b) (some (contentGiven b)) p)
   unfolding addSetLines rulesFit
   add-set-sound h e =
       let n : ℕ = setNumber b in
@@ -159,7 +160,7 @@ module _ (p : Plan) (b : List ℕ) (s : Sound p) where
       let l11 = passed-at 2 (removeSetLines p b) tt e in
       slot-sound p n none (λ r. not (names n r)) s tt (none-any (names n) (p .rules) l11) (λ r u t. fits-other (p .slots) n none r u t)
 
-  replace-set-sound : length b ≡ 47 → firstOf (replaceSetLines p b) ≡ 0 → Sound (withSlot (setNumber b) (some (contentGiven b)) p)
+  replace-set-sound : length b ≡ SET-BODY → firstOf (replaceSetLines p b) ≡ 0 → Sound (withSlot (setNumber b) (some (contentGiven b)) p)
   unfolding replaceSetLines
   replace-set-sound h e =
       let n : ℕ = setNumber b in
@@ -182,13 +183,13 @@ module _ (p : Plan) (b : List ℕ) (s : Sound p) where
 
   -- RULES
 
-  code-passes : length b ≡ 21 → T (not (not (filterInRange (codeGiven b)))) → T (codePasses (codeGiven b))
+  code-passes : length b ≡ RULE-BODY → T (not (not (filterInRange (codeGiven b)))) → T (codePasses (codeGiven b))
   unfolding codePasses
   code-passes h t =
-      let size : T (sized 19 (codeGiven b)) = rw (length-take-le 19 b (omega arith)) tt in
-      and-both (sized 19 (codeGiven b)) (filterInRange (codeGiven b)) size (not-not (filterInRange (codeGiven b)) t)
+      let size : T (sized FILTER-BYTES (codeGiven b)) = rw (length-take-le FILTER-BYTES b (omega arith)) tt in
+      and-both (sized FILTER-BYTES (codeGiven b)) (filterInRange (codeGiven b)) size (not-not (filterInRange (codeGiven b)) t)
 
-  add-rule-sound : length b ≡ 21 → firstOf (addRuleLines p b) ≡ 0 → Sound (withRules (insert (ruleGiven b) (p .rules)) p)
+  add-rule-sound : length b ≡ RULE-BODY → firstOf (addRuleLines p b) ≡ 0 → Sound (withRules (insert (ruleGiven b) (p .rules)) p)
   unfolding addRuleLines withRules rulesFit codesPass
   add-rule-sound h e =
       let n : ℕ = setGiven b in

@@ -12,7 +12,7 @@ use lib.Dec.{T, T-not, ltb, leb, eqb, eqb-refl, eqb→eq, leb→le, ltb→lt}
 use borrow.Author.Tests.{eqb-true, eqb-false, leb-true, leb-false, ltb-true, ltb-false, lt-ltb, le-ltb, le-leb, lt-leb, eq-eqb, ne-eqb}
 use Rattle.meaning.specs.Basics.{if_then_else_, all, any, isEmpty, isZero, within, part}
 use Rattle.meaning.specs.Filters.{Filter, lengthFits, fitsNumber}
-use Rattle.meaning.specs.Actions.{CA, isIGN, isX, isFPFX, isCCDEF, valueOf, setsValue, ActionSet, casOf, casInRange, caInRange, mostOf}
+use Rattle.meaning.specs.Actions.{IGN, LAST-COUNTED, SNX, ZNX, FPFX, CCDEF, CA, isIGN, isX, isFPFX, isCCDEF, valueOf, setsValue, ActionSet, casOf, casInRange, caInRange, mostOf}
 use Rattle.meaning.specs.Groups.{isSet, eachValueOnce, fpfxFirst, onlyCcdefAfterX, fixedOf, fixedSum, fpfxMeetsPrefix, sumFits, casFit}
 use Rattle.meaning.specs.Conditioning.{width, meetsTooFew, short, Stretch, stretchFrom, stretchOf, digitsAt, adds, joined}
 use Rattle.meaning.specs.Stretches.{stretchAt, Covers, covered, fixed, ignored, matched, allLeft, takesNone, ShortExactly, Accounted}
@@ -48,11 +48,11 @@ value-small c = go (0 ∷ 0 ∷ 1 ∷ 2 ∷ 3 ∷ 4 ∷ 5 ∷ 7 ∷ 8 ∷ 9 ∷ 
 
 code-below : (c n : ℕ) → T (caInRange c n) → c < 16
 unfolding caInRange
-code-below c n t = go (leb c 10) refl t
+code-below c n t = go (leb c LAST-COUNTED) refl t
   where
-    go : (b : Bool) → leb c 10 ≡ b → T (if b then within 1 (mostOf c) n else (leb c 15 && isZero n)) → c < 16
+    go : (b : Bool) → leb c LAST-COUNTED ≡ b → T (if b then within 1 (mostOf c) n else (leb c CCDEF && isZero n)) → c < 16
     go true e u = omega (arith, leb-true c 10 e)
-    go false e u = omega (arith, leb→le c 15 (and-left (leb c 15) (isZero n) u))
+    go false e u = omega (arith, leb→le c CCDEF (and-left (leb c CCDEF) (isZero n) u))
 
 pub ranged-below : (a : CA) → T (ranged a) → a .code < 16
 ranged-below a t = code-below (a .code) (a .count) (and-right (not (isZero (a .code))) (caInRange (a .code) (a .count)) t)
@@ -62,23 +62,23 @@ ranged-above a t e = T-not (isZero (a .code)) (and-left (not (isZero (a .code)))
 
 -- WHAT EACH KIND OF ACTION TAKES FOR CERTAIN
 
-x-code : (a : CA) → T (isX a) → (11 ≤ a .code) × (a .code ≤ 13)
+x-code : (a : CA) → T (isX a) → (SNX ≤ a .code) × (a .code ≤ ZNX)
 x-code a t =
-    (leb→le 11 (a .code) (and-left (leb 11 (a .code)) (leb (a .code) 13) t), leb→le (a .code) 13 (and-right (leb 11 (a .code)) (leb (a .code) 13) t))
+    (leb→le SNX (a .code) (and-left (leb SNX (a .code)) (leb (a .code) ZNX) t), leb→le (a .code) ZNX (and-right (leb SNX (a .code)) (leb (a .code) ZNX) t))
 
-fixed-none : (m : ℕ) (a : CA) → 10 < a .code → a .code ≢ 14 → fixedOf m a ≡ 0
-fixed-none m a h n = rw (lt-leb (a .code) 10 h, ne-eqb (a .code) 14 n)
+fixed-none : (m : ℕ) (a : CA) → LAST-COUNTED < a .code → a .code ≢ FPFX → fixedOf m a ≡ 0
+fixed-none m a h n = rw (lt-leb (a .code) LAST-COUNTED h, ne-eqb (a .code) FPFX n)
 
 x-fixed : (m : ℕ) (a : CA) → T (isX a) → fixedOf m a ≡ 0
 x-fixed m a t =
-    let h : 11 ≤ a .code = x-code a t .0 in let k : a .code ≤ 13 = x-code a t .1 in
+    let h : SNX ≤ a .code = x-code a t .0 in let k : a .code ≤ ZNX = x-code a t .1 in
     fixed-none m a (omega arith) (λ e. omega arith)
 
 ccdef-fixed : (m : ℕ) (a : CA) → T (isCCDEF a) → fixedOf m a ≡ 0
-ccdef-fixed m a t = let e : a .code ≡ 15 = eqb→eq (a .code) 15 t in fixed-none m a (omega arith) (λ q. omega arith)
+ccdef-fixed m a t = let e : a .code ≡ CCDEF = eqb→eq (a .code) CCDEF t in fixed-none m a (omega arith) (λ q. omega arith)
 
 ccdef-not-x : (a : CA) → T (isCCDEF a) → isX a ≡ false
-ccdef-not-x a t = let e : a .code ≡ 15 = eqb→eq (a .code) 15 t in rw e
+ccdef-not-x a t = let e : a .code ≡ CCDEF = eqb→eq (a .code) CCDEF t in rw e
 
 ccdef-width : (m left : ℕ) (a : CA) → T (isCCDEF a) → width m left a ≡ 0
 ccdef-width m left a t = rw (ccdef-not-x a t) (ccdef-fixed m a t)
@@ -155,7 +155,7 @@ x-short m left (a ∷ xs) e o = go (isX a) refl e o (x-short m (left - fixedOf m
 
 -- IGN alone sets no value, over the fifteen codes
 ignTest : ℕ → Bool
-ignTest c = isZero c || (if eqb c 1 then isZero (valueOf c) else not (isZero (valueOf c)))
+ignTest c = isZero c || (if eqb c IGN then isZero (valueOf c) else not (isZero (valueOf c)))
 
 ign-codes : T (allBelow ignTest 16)
 unfolding ignTest valueOf
@@ -164,9 +164,9 @@ ign-codes = tt
 sets-none : (a : CA) → T (ranged a) → isZero (valueOf (a .code)) ≡ isIGN a
 unfolding ignTest
 sets-none a t =
-    let h : T (isZero (a .code) || (if eqb (a .code) 1 then isZero (valueOf (a .code)) else not (isZero (valueOf (a .code))))) =
+    let h : T (isZero (a .code) || (if eqb (a .code) IGN then isZero (valueOf (a .code)) else not (isZero (valueOf (a .code))))) =
     at-below ignTest 16 ign-codes (a .code) (ranged-below a t) in
-    go (eqb (a .code) 1) (isZero (valueOf (a .code)))
+    go (eqb (a .code) IGN) (isZero (valueOf (a .code)))
     (or-other (isZero (a .code)) _ h (and-left (not (isZero (a .code))) (caInRange (a .code) (a .count)) t))
   where
     go : (i z : Bool) → T (if i then z else not z) → z ≡ i
@@ -317,21 +317,21 @@ module _ (read : ℕ → Stretch) (prefix ds : List ℕ) (prefix-is : prefix ≡
       go : (i x f c : Bool) → isIGN a ≡ i → isX a ≡ x → isFPFX a ≡ f → isCCDEF a ≡ c
           → ((w : ℕ) → width m left a ≡ w → Covers read prefix ds (at + w) xs) → Covers read prefix ds at (a ∷ xs)
       go true x f c ei ex ef ec ih =
-          let code : a .code ≡ 1 = eqb-true (a .code) 1 ei in
+          let code : a .code ≡ IGN = eqb-true (a .code) IGN ei in
           let w : width m left a ≡ a .count = rw code in
           let h : at + a .count ≤ length ds = omega arith in
           ignored (true-is _ ei) h (ih (a .count) w)
       go false true f c ei ex ef ec ih =
           let w : width m left a ≡ left = rw ex in
-          let code : a .code ≤ 13 = x-code a (true-is _ ex) .1 in
-          let no : isCCDEF a ≡ false = ne-eqb (a .code) 15 (λ e. omega arith) in
+          let code : a .code ≤ ZNX = x-code a (true-is _ ex) .1 in
+          let no : isCCDEF a ≡ false = ne-eqb (a .code) CCDEF (λ e. omega arith) in
           let first : meetsTooFew m left a ≡ false = long-parts m left a xs (r .long) .first in
           let some : isZero left ≡ false = sym (rw ex) ∙ first in
           let size : left ≡ length ds - at = omega arith in
           allLeft (true-is _ ex) (first-stretch read m at left a xs (r .agrees) ei no ∙ ap (stretchAt at) (w ∙ size))
           (omega (arith, eqb-false left 0 some)) (rw whole at (ih left w))
       go false false true c ei ex ef ec ih =
-          let code : a .code ≡ 14 = eqb-true (a .code) 14 ef in
+          let code : a .code ≡ FPFX = eqb-true (a .code) FPFX ef in
           let w : width m left a ≡ m = rw code in
           let no : isCCDEF a ≡ false = rw code in
           let start : at ≡ 0 = r .fpfx (rw ef tt) .0 in
@@ -344,18 +344,18 @@ module _ (read : ℕ → Stretch) (prefix ds : List ℕ) (prefix-is : prefix ≡
       go false false false false ei ex ef ec ih =
           let below : a .code < 16 = ranged-below a is-ranged in
           let above : a .code ≢ 0 = ranged-above a is-ranged in
-          let ten : a .code ≤ 10 = fixed-code (a .code) below (eqb-false (a .code) 14 ef) (eqb-false (a .code) 15 ec) ex in
-          let w : width m left a ≡ a .count = rw (ex, le-leb (a .code) 10 ten) in
+          let ten : a .code ≤ LAST-COUNTED = fixed-code (a .code) below (eqb-false (a .code) FPFX ef) (eqb-false (a .code) CCDEF ec) ex in
+          let w : width m left a ≡ a .count = rw (ex, le-leb (a .code) LAST-COUNTED ten) in
           let h : at + a .count ≤ length ds = omega arith in
-          fixed (and-both (leb 2 (a .code)) (leb (a .code) 10) (true-is _ (le-leb 2 (a .code) (omega (arith, eqb-false (a .code) 1 ei)))) (true-is _ (le-leb (a .code) 10 ten)))
+          fixed (and-both (leb 2 (a .code)) (leb (a .code) LAST-COUNTED) (true-is _ (le-leb 2 (a .code) (omega (arith, eqb-false (a .code) IGN ei)))) (true-is _ (le-leb (a .code) LAST-COUNTED ten)))
           (first-stretch read m at left a xs (r .agrees) ei ec ∙ ap (stretchAt at) w) h (ih (a .count) w)
         where
-          fixed-code : (c : ℕ) → c < 16 → c ≢ 14 → c ≢ 15 → within 11 13 c ≡ false → c ≤ 10
-          fixed-code c h n k e = pick (leb 11 c) refl e
+          fixed-code : (c : ℕ) → c < 16 → c ≢ FPFX → c ≢ CCDEF → within SNX ZNX c ≡ false → c ≤ LAST-COUNTED
+          fixed-code c h n k e = pick (leb SNX c) refl e
             where
-              pick : (b : Bool) → leb 11 c ≡ b → (b && leb c 13) ≡ false → c ≤ 10
-              pick true q f = absurd (let z = leb-false c 13 f in omega arith)
-              pick false q f = let z = leb-false 11 c q in omega arith
+              pick : (b : Bool) → leb SNX c ≡ b → (b && leb c ZNX) ≡ false → c ≤ LAST-COUNTED
+              pick true q f = absurd (let z = leb-false c ZNX f in omega arith)
+              pick false q f = let z = leb-false SNX c q in omega arith
 
 -- JOINING: what covers the digits from a place on, joined in list order, is the digits from there on
 
@@ -387,25 +387,25 @@ module _ (read : ℕ → Stretch) (prefix ds : List ℕ) where
   joined-covers : {at : ℕ} {xs : List CA} → Covers read prefix ds at xs → joined digits-read ds at xs ≡ drop at ds
   joined-covers covered = sym (drop-length ds)
   joined-covers (fixed {at} {a} {xs} t e h c) =
-      let low : 2 ≤ a .code = leb→le 2 (a .code) (and-left (leb 2 (a .code)) (leb (a .code) 10) t) in
-      let high : a .code ≤ 10 = leb→le (a .code) 10 (and-right (leb 2 (a .code)) (leb (a .code) 10) t) in
+      let low : 2 ≤ a .code = leb→le 2 (a .code) (and-left (leb 2 (a .code)) (leb (a .code) LAST-COUNTED) t) in
+      let high : a .code ≤ LAST-COUNTED = leb→le (a .code) LAST-COUNTED (and-right (leb 2 (a .code)) (leb (a .code) LAST-COUNTED) t) in
       join-step at (a .count) a xs
-      (adds-value at a (stretchAt at (a .count)) (ne-eqb (a .code) 1 (λ q. omega arith)) (ne-eqb (a .code) 15 (λ q. omega arith)) e) h (joined-covers c)
+      (adds-value at a (stretchAt at (a .count)) (ne-eqb (a .code) IGN (λ q. omega arith)) (ne-eqb (a .code) CCDEF (λ q. omega arith)) e) h (joined-covers c)
   joined-covers (ignored {at} {a} {xs} t h c) = join-step at (a .count) a xs (adds-ignored at a (is-true _ t)) h (joined-covers c)
   joined-covers (matched {at} {a} {xs} t e p h c) =
-      let code : a .code ≡ 14 = eqb→eq (a .code) 14 t in
+      let code : a .code ≡ FPFX = eqb→eq (a .code) FPFX t in
       join-step at (length prefix) a xs
-      (adds-value at a (stretchAt at (length prefix)) (ne-eqb (a .code) 1 (λ q. omega arith)) (ne-eqb (a .code) 15 (λ q. omega arith)) e) h (joined-covers c)
+      (adds-value at a (stretchAt at (length prefix)) (ne-eqb (a .code) IGN (λ q. omega arith)) (ne-eqb (a .code) CCDEF (λ q. omega arith)) e) h (joined-covers c)
   joined-covers (allLeft {at} {a} {xs} t e h c) =
-      let low : 11 ≤ a .code = x-code a t .0 in let high : a .code ≤ 13 = x-code a t .1 in
+      let low : SNX ≤ a .code = x-code a t .0 in let high : a .code ≤ ZNX = x-code a t .1 in
       let all : at + (length ds - at) ≡ length ds = omega arith in
       join-step at (length ds - at) a xs
-      (adds-value at a (stretchAt at (length ds - at)) (ne-eqb (a .code) 1 (λ q. omega arith)) (ne-eqb (a .code) 15 (λ q. omega arith)) e) (omega arith)
+      (adds-value at a (stretchAt at (length ds - at)) (ne-eqb (a .code) IGN (λ q. omega arith)) (ne-eqb (a .code) CCDEF (λ q. omega arith)) e) (omega arith)
       (rw all (joined-covers c))
   joined-covers (takesNone {at} {a} {xs} t c) =
-      let code : a .code ≡ 15 = eqb→eq (a .code) 15 t in
+      let code : a .code ≡ CCDEF = eqb→eq (a .code) CCDEF t in
       let here : at + 0 ≡ at = omega arith in
-      rw (adds-nothing at a (ne-eqb (a .code) 1 (λ q. omega arith)) (is-true _ t), here) (joined-covers c)
+      rw (adds-nothing at a (ne-eqb (a .code) IGN (λ q. omega arith)) (is-true _ t), here) (joined-covers c)
 
 -- THE THEOREMS
 

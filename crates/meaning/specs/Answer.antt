@@ -5,6 +5,7 @@ use mathlib.Core.List.{List, [], _∷_}
 use mathlib.Core.Option.{Option, none, some}
 use lib.ListN.{length, take, replicate}
 use lib.Dec.{leb, ltb, eqb}
+use Rattle.meaning.specs.Sizes.{NUMBER-BYTES, DIGIT-ROOM}
 use Rattle.meaning.specs.Basics.{if_then_else_, isEmpty}
 use Rattle.meaning.specs.Refusals.{CUT, PLAN, ROOM, RANGE, SHORT, LONG, Line, firstOf}
 use Rattle.meaning.specs.Settings.{AS-INCOMING, Settings, Number, numberOf, numberInRange}
@@ -104,8 +105,8 @@ checked zero a = a
 checked (suc r) a = refused (suc r)
 
 abbrev pub answer : Option Plan → ℕ → List ℕ → Answer
-answer none size body = refused (firstOf ((ltb (length body) 73, CUT) ∷ (true, PLAN) ∷ []))
+answer none size body = refused (firstOf ((ltb (length body) NUMBER-BYTES, CUT) ∷ (true, PLAN) ∷ []))
 answer (some p) size body =
     checked
-    (firstOf ((ltb (length body) 73, CUT) ∷ (ltb size 35, ROOM) ∷ (not (numberInRange (take 73 body)), RANGE) ∷ []))
-    (answerOf p (numberOf (take 73 body)))
+    (firstOf ((ltb (length body) NUMBER-BYTES, CUT) ∷ (ltb size DIGIT-ROOM, ROOM) ∷ (not (numberInRange (take NUMBER-BYTES body)), RANGE) ∷ []))
+    (answerOf p (numberOf (take NUMBER-BYTES body)))

@@ -5,6 +5,7 @@ use mathlib.Core.List.{List, [], _∷_}
 use mathlib.Core.Option.{Option, none, some}
 use lib.ListN.{length, take, getD}
 use lib.Dec.{leb, ltb, eqb}
+use Rattle.meaning.specs.Sizes.{ROOMS-BYTES, SETTINGS-BYTES, OPENING-BYTES, SET-NUMBER-BYTES, CONTENT-BYTES, SET-BODY, FILTER-BYTES, SET-AT, RULE-BODY, NUMBER-BYTES}
 use Rattle.meaning.specs.Basics.{if_then_else_, all, any, isSome, isZero, part, word}
 use Rattle.meaning.specs.Refusals.{CUT, PLAN, ROOM, RANGE, GROUPS, TAKEN, ABSENT, MISFIT, FULL, IN-USE, Line, firstOf}
 use Rattle.meaning.specs.Settings.{Rooms, roomsOf, roomsInRange, settingsInRange, bytesNeeded}
@@ -26,19 +27,67 @@ pub record Call : Type 0 where
   pub operation : Operation
   pub body : List ℕ
 
--- its kind as a house record
-abbrev pub kindOf : Operation → ℕ
-kindOf openPlan = 0
-kindOf addSet = 1
-kindOf replaceSet = 2
-kindOf removeSet = 3
-kindOf addRule = 4
-kindOf changeRule = 5
-kindOf removeRule = 6
+-- THE KINDS OF HOUSE RECORDS: "open", "add, replace set", "remove set", "add rule, change its set", "remove rule"
 
--- "a body whose length the kind fixes", kinds 0 to 9
+abbrev pub OPEN-PLAN : ℕ
+OPEN-PLAN = 0
+
+abbrev pub ADD-SET : ℕ
+ADD-SET = 1
+
+abbrev pub REPLACE-SET : ℕ
+REPLACE-SET = 2
+
+abbrev pub REMOVE-SET : ℕ
+REMOVE-SET = 3
+
+abbrev pub ADD-RULE : ℕ
+ADD-RULE = 4
+
+abbrev pub CHANGE-RULE : ℕ
+CHANGE-RULE = 5
+
+abbrev pub REMOVE-RULE : ℕ
+REMOVE-RULE = 6
+
+-- "number", "count rules naming a set", "list"
+abbrev pub NUMBER : ℕ
+NUMBER = 7
+
+abbrev pub REFS : ℕ
+REFS = 8
+
+abbrev pub LIST : ℕ
+LIST = 9
+
+abbrev pub kinds : List ℕ
+kinds = OPEN-PLAN ∷ ADD-SET ∷ REPLACE-SET ∷ REMOVE-SET ∷ ADD-RULE ∷ CHANGE-RULE ∷ REMOVE-RULE ∷ NUMBER ∷ REFS ∷ LIST ∷ []
+
+-- KIND: "unknown kind byte" is where this is false
+unfoldable pub isKind : ℕ → Bool
+isKind k = leb k LIST
+
+-- the kinds of the calls that open and provision: "Kinds 0 to 6 write `ok`"
+unfoldable pub isCall : ℕ → Bool
+isCall k = leb k REMOVE-RULE
+
+-- "a body whose length the kind fixes", in the order of the kinds
+abbrev pub bodyLengths : List ℕ
+bodyLengths =
+    OPENING-BYTES ∷ SET-BODY ∷ SET-BODY ∷ SET-NUMBER-BYTES ∷ RULE-BODY ∷ RULE-BODY ∷ FILTER-BYTES ∷ NUMBER-BYTES ∷ SET-NUMBER-BYTES ∷ 0 ∷ []
+
 unfoldable pub bodyLength : ℕ → ℕ
-bodyLength k = getD (40 ∷ 47 ∷ 47 ∷ 2 ∷ 21 ∷ 21 ∷ 19 ∷ 73 ∷ 2 ∷ 0 ∷ []) k 0
+bodyLength k = getD bodyLengths k 0
+
+-- the kind of a call as a house record
+abbrev pub kindOf : Operation → ℕ
+kindOf openPlan = OPEN-PLAN
+kindOf addSet = ADD-SET
+kindOf replaceSet = REPLACE-SET
+kindOf removeSet = REMOVE-SET
+kindOf addRule = ADD-RULE
+kindOf changeRule = CHANGE-RULE
+kindOf removeRule = REMOVE-RULE
 
 -- CUT: "a record's body is shorter than its kind says"
 abbrev pub isCut : Call → Bool
@@ -50,22 +99,22 @@ bodyOf c = take (bodyLength (kindOf (c .operation))) (c .body)
 
 -- what stands in a body: "rooms 2+2", and the settings; "number 2", and the content; the filter, and "set 2"
 abbrev pub openedRooms : List ℕ → List ℕ
-openedRooms b = take 4 b
+openedRooms b = take ROOMS-BYTES b
 
 abbrev pub openedSettings : List ℕ → List ℕ
-openedSettings b = part 4 36 b
+openedSettings b = part ROOMS-BYTES SETTINGS-BYTES b
 
 abbrev pub setNumber : List ℕ → ℕ
 setNumber b = word b 0
 
 abbrev pub contentGiven : List ℕ → List ℕ
-contentGiven b = part 2 45 b
+contentGiven b = part SET-NUMBER-BYTES CONTENT-BYTES b
 
 abbrev pub codeGiven : List ℕ → List ℕ
-codeGiven b = take 19 b
+codeGiven b = take FILTER-BYTES b
 
 abbrev pub setGiven : List ℕ → ℕ
-setGiven b = word b 19
+setGiven b = word b SET-AT
 
 -- THE CHECKS OF EACH, "Order: as numbered"
 

@@ -5,30 +5,33 @@ use mathlib.Core.Bool.{Bool, true, false}
 use mathlib.Core.List.{List, [], _∷_, _++_, map}
 use mathlib.Core.Option.{Option, none, some}
 use lib.ListN.{length, replicate}
+use Rattle.meaning.specs.Sizes.{SETTINGS-BYTES, CONTENT-BYTES, NUMBER-BYTES, DIGIT-ROOM}
 use Rattle.meaning.specs.Basics.{if_then_else_, padded}
+use Rattle.meaning.specs.Settings.{bytesNeeded}
 use Rattle.meaning.specs.Rules.{Rule, chosen}
 use Rattle.meaning.specs.Plan.{Plan}
 use Rattle.meaning.specs.Answer.{Answer, answer}
 use Rattle.meaning.specs.Reads.{Read, conditioned, Listed, listed}
 use Rattle.meaning.specs.Calls.{Operation, openPlan, addSet, addRule, Call, lacksBytes, putIn, refusalsFrom}
 
--- THE BODIES
+-- THE BODIES, those that a request may widen padded to their width
 
 abbrev pub string : ℕ → List ℕ → List ℕ
 string n ds = length ds ∷ padded n ds
 
 -- 8 sets, 8 rules, country code 55
 abbrev pub openingBody : List ℕ → List ℕ → List ℕ
-openingBody dfltrn answers = 0 ∷ 8 ∷ 0 ∷ 8 ∷ (string 3 (5 ∷ 5 ∷ []) ++ (string 15 dfltrn ++ (string 5 [] ++ (string 5 [] ++ answers))))
+openingBody dfltrn answers =
+    0 ∷ 8 ∷ 0 ∷ 8 ∷ padded SETTINGS-BYTES (string 3 (5 ∷ 5 ∷ []) ++ (string 15 dfltrn ++ (string 5 [] ++ (string 5 [] ++ answers))))
 
 abbrev pub setBody : ℕ → List ℕ → List ℕ → List ℕ → List ℕ
-setBody class cas sas fas = 0 ∷ 0 ∷ class ∷ (padded 24 cas ++ (padded 8 sas ++ padded 12 fas))
+setBody class cas sas fas = 0 ∷ 0 ∷ padded CONTENT-BYTES (class ∷ (padded 24 cas ++ (padded 8 sas ++ padded 12 fas)))
 
 abbrev pub ruleBody : ℕ → List ℕ → ℕ → List ℕ
 ruleBody class prefix len = class ∷ (string 16 prefix ++ (len ∷ 0 ∷ 0 ∷ []))
 
 abbrev pub numberBody : ℕ → List ℕ → ℕ → List ℕ → List ℕ
-numberBody class ds kind entity = class ∷ (string 32 ds ++ (kind ∷ (string 15 entity ++ (string 10 [] ++ string 10 []))))
+numberBody class ds kind entity = padded NUMBER-BYTES (class ∷ (string 32 ds ++ (kind ∷ (string 15 entity ++ (string 10 [] ++ string 10 [])))))
 
 -- THE CALLS
 
@@ -103,11 +106,14 @@ abbrev pub shownChoice : Option Plan → ℕ → List ℕ → List ℕ
 shownChoice none class ds = []
 shownChoice (some p) class ds = shownRule (chosen class ds (p .rules))
 
--- a memory of 640 bytes has room for 8 sets and 8 rules; the digit buffer has 35
+-- a memory with room for 8 sets and 8 rules, and no byte more
+abbrev pub MEMORY : ℕ
+MEMORY = bytesNeeded (record { sets = 8; rules = 8 })
+
 abbrev pub shown : Query → List Call → List ℕ
-shown (choice class ds) cs = shownChoice (putIn (lacksBytes 640) cs) class ds
-shown (answered b) cs = shownAnswer (answer (putIn (lacksBytes 640) cs) 35 b)
-shown (condition class ds) cs = shownRead (conditioned (putIn (lacksBytes 640) cs) 35 class ds)
+shown (choice class ds) cs = shownChoice (putIn (lacksBytes MEMORY) cs) class ds
+shown (answered b) cs = shownAnswer (answer (putIn (lacksBytes MEMORY) cs) DIGIT-ROOM b)
+shown (condition class ds) cs = shownRead (conditioned (putIn (lacksBytes MEMORY) cs) DIGIT-ROOM class ds)
 shown nothing cs = []
 
 -- THE TABLE
@@ -168,5 +174,5 @@ table =
 
 -- a row holds: each call is answered with its number, and what is asked with the row's result
 pub record Holds (r : Row) : Type 0 where
-  pub numbers : refusalsFrom (lacksBytes 640) none (r .calls) ≡ r .numbers
+  pub numbers : refusalsFrom (lacksBytes MEMORY) none (r .calls) ≡ r .numbers
   pub result : shown (r .query) (r .calls) ≡ r .result

@@ -4,6 +4,7 @@ use mathlib.Core.Bool.{Bool, true, false, _&&_, _||_}
 use mathlib.Core.List.{List, [], _∷_}
 use lib.ListN.{length, take, drop, getD}
 use lib.Dec.{leb, eqb, isEq}
+use Rattle.meaning.specs.Sizes.{CLASS-AT, PREFIX-AT, LENGTH-AT}
 use Rattle.meaning.specs.Basics.{allOf, isZero, part, digitsOf, digitsInRange, beginsWith}
 use Rattle.meaning.specs.Settings.{isClass}
 
@@ -13,15 +14,15 @@ pub record Filter : Type 0 where
   pub prefix : List ℕ
   pub len : ℕ
 
--- the 19 bytes of a filter: "class 1, prefix 1+16, length 1"
+-- the bytes of a filter: "class 1, prefix 1+16, length 1"
 unfoldable pub filterOf : List ℕ → Filter
-filterOf b = record { class = getD b 0 0; prefix = digitsOf (part 1 17 b); len = getD b 18 0 }
+filterOf b = record { class = getD b CLASS-AT 0; prefix = digitsOf (part PREFIX-AT 17 b); len = getD b LENGTH-AT 0 }
 
 -- RANGE; "A stated length is at least the prefix's length"
 abbrev pub filterRanges : List ℕ → List Bool
 filterRanges b =
-    isClass (getD b 0 0) ∷ digitsInRange 0 16 (part 1 17 b) ∷ leb (getD b 18 0) 32
-    ∷ (isZero (getD b 18 0) || leb (getD b 1 0) (getD b 18 0)) ∷ []
+    isClass (getD b CLASS-AT 0) ∷ digitsInRange 0 16 (part PREFIX-AT 17 b) ∷ leb (getD b LENGTH-AT 0) 32
+    ∷ (isZero (getD b LENGTH-AT 0) || leb (getD b PREFIX-AT 0) (getD b LENGTH-AT 0)) ∷ []
 
 unfoldable pub filterInRange : List ℕ → Bool
 filterInRange b = allOf (filterRanges b)

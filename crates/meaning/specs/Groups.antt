@@ -6,7 +6,7 @@ use lib.ListN.{length, drop, getD}
 use lib.Dec.{leb, ltb, eqb}
 use Rattle.meaning.specs.Basics.{if_then_else_, all, any, count, allOf, isEmpty, isZero, contains}
 use Rattle.meaning.specs.Filters.{Filter}
-use Rattle.meaning.specs.Actions.{CC, AC, SN, DN, ZN, SP, ASD, GRN, LAST-CONDITIONED, CDPNNP, ASDLKUP, GRNLKUP, CA, isX, isFPFX, isCCDEF, valueOf, setsValue, ActionSet}
+use Rattle.meaning.specs.Actions.{CC, AC, SN, DN, ZN, SP, ASD, GRN, LAST-CONDITIONED, CDPNNP, ASDLKUP, GRNLKUP, LAST-COUNTED, CA, isX, isFPFX, isCCDEF, valueOf, setsValue, ActionSet}
 
 -- GROUP RULES
 
@@ -90,7 +90,7 @@ groupsHold s = allOf (groupRules s)
 
 -- what a CA takes for certain, whatever is left: its count for codes 1 to 10, the prefix for FPFX, nothing for an X action and CCDEF
 abbrev pub fixedOf : ℕ → CA → ℕ
-fixedOf prefix a = if leb (a .code) 10 then a .count else if isFPFX a then prefix else 0
+fixedOf prefix a = if leb (a .code) LAST-COUNTED then a .count else if isFPFX a then prefix else 0
 
 -- "F the sum of fixed counts and of the prefix length for FPFX"
 abbrev pub fixedSum : ℕ → List CA → ℕ

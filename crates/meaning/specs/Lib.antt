@@ -1,4 +1,5 @@
 pub mod Basics
+pub mod Sizes
 pub mod Refusals
 pub mod Settings
 pub mod Filters

@@ -8,6 +8,7 @@ use mathlib.Core.List.{List}
 use mathlib.Core.Option.{Option, none, some}
 use lib.ListN.{length}
 use lib.Dec.{T}
+use Rattle.meaning.specs.Sizes.{DIGIT-ROOM}
 use Rattle.meaning.specs.Basics.{isEmpty}
 use Rattle.meaning.specs.Refusals.{SHORT}
 use Rattle.meaning.specs.Settings.{dialledInRange}
@@ -45,4 +46,4 @@ pub record NumberHolds (p : Plan) (class : ℕ) (ds : List ℕ) (r : Rule) (cont
 abbrev pub EveryNumber : Type 0
 EveryNumber =
     (p : Plan) → T (sound p) → (class : ℕ) (ds : List ℕ) (r : Rule) (content : List ℕ) → Conditions p class ds r content
-    → (size : ℕ) → 35 ≤ size → NumberHolds p class ds r content size
+    → (size : ℕ) → DIGIT-ROOM ≤ size → NumberHolds p class ds r content size

@@ -6,6 +6,7 @@ use mathlib.Core.List.{List, [], _∷_, map}
 use mathlib.Core.Option.{Option, none, some}
 use lib.ListN.{length, take, drop, getD, set, replicate}
 use lib.Dec.{T, leb, eqb}
+use Rattle.meaning.specs.Sizes.{ROOMS-BYTES, SETTINGS-BYTES, CONTENT-BYTES, FILTER-BYTES}
 use Rattle.meaning.specs.Basics.{if_then_else_, all, any, count, allOf, part}
 use Rattle.meaning.specs.Settings.{Rooms, roomsOf, roomsInRange, Settings, settingsOf, settingsInRange}
 use Rattle.meaning.specs.Filters.{Filter, filterInRange}
@@ -13,7 +14,7 @@ use Rattle.meaning.specs.Rules.{Rule, filterIn, names, inOrder}
 use Rattle.meaning.specs.Actions.{ActionSet, actionsOf, contentInRange}
 use Rattle.meaning.specs.Groups.{groupsHold, fit}
 
--- the opening's 4 bytes of rooms and 36 of settings; for each set number its 45 bytes of content where it is held; the rules in listing order
+-- the bytes of the opening's rooms and of its settings; for each set number the bytes of its content where it is held; the rules in listing order
 pub record Plan : Type 0 where
   pub rooms : List ℕ
   pub settings : List ℕ
@@ -59,7 +60,7 @@ sized n b = eqb (length b) n
 
 -- a set's content in range that keeps the group rules
 abbrev pub contentRules : List ℕ → List Bool
-contentRules c = sized 45 c ∷ contentInRange c ∷ groupsHold (actionsOf c) ∷ []
+contentRules c = sized CONTENT-BYTES c ∷ contentInRange c ∷ groupsHold (actionsOf c) ∷ []
 
 unfoldable pub contentPasses : List ℕ → Bool
 contentPasses c = allOf (contentRules c)
@@ -70,7 +71,7 @@ slotPasses (some c) = contentPasses c
 
 -- a rule's filter in range
 unfoldable pub codePasses : List ℕ → Bool
-codePasses c = sized 19 c && filterInRange c
+codePasses c = sized FILTER-BYTES c && filterInRange c
 
 -- the set is held, and the filter fits it
 abbrev pub fitsHeld : Filter → Option (List ℕ) → Bool
@@ -86,7 +87,7 @@ codesPass rs = all (λ (r : Rule). codePasses (r .code)) rs
 
 abbrev pub soundRules : Plan → List Bool
 soundRules p =
-    sized 4 (p .rooms) ∷ roomsInRange (p .rooms) ∷ sized 36 (p .settings) ∷ settingsInRange (p .settings)
+    sized ROOMS-BYTES (p .rooms) ∷ roomsInRange (p .rooms) ∷ sized SETTINGS-BYTES (p .settings) ∷ settingsInRange (p .settings)
     ∷ eqb (length (p .slots)) ((roomsIn p) .sets) ∷ all slotPasses (p .slots)
     ∷ leb (length (p .rules)) ((roomsIn p) .rules) ∷ codesPass (p .rules) ∷ inOrder (p .rules) ∷ rulesFit (p .slots) (p .rules) ∷ []
 

@@ -5,6 +5,7 @@ use mathlib.Core.List.{List, [], _∷_, map}
 use mathlib.Core.Option.{Option, none, some}
 use lib.ListN.{length, getD, getElem?}
 use lib.Dec.{leb, ltb, eqb}
+use Rattle.meaning.specs.Sizes.{SET-BODY, DIGIT-ROOM}
 use Rattle.meaning.specs.Basics.{if_then_else_, isEmpty, within, isSome}
 use Rattle.meaning.specs.Refusals.{PLAN, ROOM, RANGE, ABSENT, SHORT, Line, firstOf}
 use Rattle.meaning.specs.Settings.{Rooms, Settings, dialledInRange}
@@ -57,7 +58,7 @@ conditionedUnder p ds (some r) = conditionedBy (settingsIn p) ds (filterIn r) (a
 abbrev pub conditioned : Option Plan → ℕ → ℕ → List ℕ → Read
 conditioned none size class ds = unread PLAN
 conditioned (some p) size class ds =
-    readAfter (firstOf ((ltb size 35, ROOM) ∷ (not (dialledInRange class ds), RANGE) ∷ []))
+    readAfter (firstOf ((ltb size DIGIT-ROOM, ROOM) ∷ (not (dialledInRange class ds), RANGE) ∷ []))
     (conditionedUnder p ds (chosen class ds (p .rules)))
 
 -- THE STRETCH of a value, "1 to 10 (its FA code)": "empty .. if the value isn't taken from the number or anything is refused"
@@ -88,7 +89,7 @@ kind1Body n (some c) = read (n / 256 ∷ n % 256 ∷ c)
 
 abbrev pub setContent : Option Plan → ℕ → ℕ → Read
 setContent none size n = unread PLAN
-setContent (some p) size n = readAfter (firstOf ((ltb size 47, ROOM) ∷ (overRoom p n, RANGE) ∷ [])) (kind1Body n (held p n))
+setContent (some p) size n = readAfter (firstOf ((ltb size SET-BODY, ROOM) ∷ (overRoom p n, RANGE) ∷ [])) (kind1Body n (held p n))
 
 -- THE COUNT OF RULES NAMING A SET
 

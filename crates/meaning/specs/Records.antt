@@ -1,17 +1,18 @@
 -- Document 01, "House records": the text that a file of records gives.
 use Prim.Native.Nat.{ℕ, zero, suc, _+_, _/_, _%_}
-use mathlib.Core.Bool.{Bool, true, false, _||_}
+use mathlib.Core.Bool.{Bool, true, false, _||_, not}
 use mathlib.Core.List.{List, [], _∷_, _++_, map}
 use mathlib.Core.Option.{Option, none, some}
 use lib.ListN.{length, take, drop, getD}
-use lib.Dec.{leb, ltb, eqb}
+use lib.Dec.{ltb, eqb}
+use Rattle.meaning.specs.Sizes.{DIGIT-ROOM, RUN-SETS, RUN-RULES}
 use Rattle.meaning.specs.Basics.{if_then_else_, isZero, word}
 use Rattle.meaning.specs.Refusals.{CUT, KIND, PLAN}
 use Rattle.meaning.specs.Settings.{roomsOf}
 use Rattle.meaning.specs.Plan.{Plan}
 use Rattle.meaning.specs.Answer.{Answer, answer}
 use Rattle.meaning.specs.Reads.{Count, referrerCount, Listed, listing}
-use Rattle.meaning.specs.Calls.{Operation, openPlan, addSet, replaceSet, removeSet, addRule, changeRule, removeRule, Call, bodyLength, refusal, after}
+use Rattle.meaning.specs.Calls.{Operation, openPlan, addSet, replaceSet, removeSet, addRule, changeRule, removeRule, Call, NUMBER, REFS, isKind, isCall, bodyLength, refusal, after}
 
 -- TEXT, as ASCII bytes
 
@@ -93,61 +94,73 @@ listText (some p) = listedLines (listing p) ++ endLine (length (listing p))
 
 -- "A program run uses at most 64 sets and 512 rules (more is ROOM there)": by each room (docs/DECISIONS.md, 1)
 unfoldable pub lacksProgramRoom : List ℕ → Bool
-lacksProgramRoom rooms = ltb 64 ((roomsOf rooms) .sets) || ltb 512 ((roomsOf rooms) .rules)
+lacksProgramRoom rooms = ltb RUN-SETS ((roomsOf rooms) .sets) || ltb RUN-RULES ((roomsOf rooms) .rules)
 
--- kinds 0 to 6 are calls; no other kind is asked for
+-- the call of a kind; no kind that is not a call's is asked for
 unfoldable pub operationOf : ℕ → Operation
 operationOf k = getD (openPlan ∷ addSet ∷ replaceSet ∷ removeSet ∷ addRule ∷ changeRule ∷ []) k removeRule
 
 abbrev pub callOf : ℕ → List ℕ → Call
 callOf k body = record { operation = operationOf k; body = body }
 
--- what a record writes
-unfoldable pub recordText : Option Plan → ℕ → List ℕ → List ℕ
-recordText s k body =
-    if leb k 6 then acceptedLine (refusal lacksProgramRoom s (callOf k body)) else
-    if eqb k 7 then numberLine (answer s 35 body) else
-    if eqb k 8 then refsLine (referrerCount s (word body 0)) else listText s
+-- the state of a run: the plan in force, none where the memory holds no sound plan
+pub record House : Type 0 where
+  pub plan : Option Plan
 
--- the plan behind a record
-unfoldable pub recordPlan : Option Plan → ℕ → List ℕ → Option Plan
-recordPlan s k body = if leb k 6 then after lacksProgramRoom s (callOf k body) else s
+-- the same with another plan
+abbrev pub withPlan : Option Plan → House → House
+withPlan s h = record { plan = s }
+
+-- "Plan memory isn't sound until an opening is accepted"
+abbrev pub newHouse : House
+newHouse = record { plan = none }
+
+-- what a record writes
+unfoldable pub recordText : House → ℕ → List ℕ → List ℕ
+recordText h k body =
+    if isCall k then acceptedLine (refusal lacksProgramRoom (h .plan) (callOf k body)) else
+    if eqb k NUMBER then numberLine (answer (h .plan) DIGIT-ROOM body) else
+    if eqb k REFS then refsLine (referrerCount (h .plan) (word body 0)) else listText (h .plan)
+
+-- the state behind a record
+unfoldable pub recordHouse : House → ℕ → List ℕ → House
+recordHouse h k body = if isCall k then withPlan (after lacksProgramRoom (h .plan) (callOf k body)) h else h
 
 -- "One byte of kind, then a body"; "KIND before CUT"; "After KIND or CUT reading ends"; `fuel` bounds how many records
-abbrev pub textFrom : ℕ → Option Plan → List ℕ → List ℕ
-textFrom zero s bytes = []
-textFrom (suc fuel) s [] = []
-textFrom (suc fuel) s (k ∷ bytes) =
-    let rest : List ℕ = textFrom fuel (recordPlan s k (take (bodyLength k) bytes)) (drop (bodyLength k) bytes) in
-    if ltb 9 k then noLine KIND else
-    if ltb (length bytes) (bodyLength k) then noLine CUT else recordText s k (take (bodyLength k) bytes) ++ rest
+abbrev pub textFrom : ℕ → House → List ℕ → List ℕ
+textFrom zero h bytes = []
+textFrom (suc fuel) h [] = []
+textFrom (suc fuel) h (k ∷ bytes) =
+    let rest : List ℕ = textFrom fuel (recordHouse h k (take (bodyLength k) bytes)) (drop (bodyLength k) bytes) in
+    if not (isKind k) then noLine KIND else
+    if ltb (length bytes) (bodyLength k) then noLine CUT else recordText h k (take (bodyLength k) bytes) ++ rest
 
--- the text of a whole file; "Plan memory isn't sound until an opening is accepted"; a record takes a byte at least
+-- the text of a whole file; a record takes a byte at least
 unfoldable pub fileText : List ℕ → List ℕ
-fileText bytes = textFrom (length bytes) none bytes
+fileText bytes = textFrom (length bytes) newHouse bytes
 
 -- what ended reading: the refusal, KIND or CUT, or 0 where the file has come to its end; the place of that record's kind byte, counted from 0, or the file's length;
--- and the plan that is left
+-- and the state that is left
 pub record End : Type 0 where
   pub refusal : ℕ
   pub place : ℕ
-  pub plan : Option Plan
+  pub house : House
 
-abbrev pub endHere : ℕ → Option Plan → End
-endHere refusal s = record { refusal = refusal; place = 0; plan = s }
+abbrev pub endHere : ℕ → House → End
+endHere refusal h = record { refusal = refusal; place = 0; house = h }
 
 -- the same, with so many bytes before it
 abbrev pub endBehind : ℕ → End → End
-endBehind n e = record { refusal = e .refusal; place = n + e .place; plan = e .plan }
+endBehind n e = record { refusal = e .refusal; place = n + e .place; house = e .house }
 
-abbrev pub endFrom : ℕ → Option Plan → List ℕ → End
-endFrom zero s bytes = endHere 0 s
-endFrom (suc fuel) s [] = endHere 0 s
-endFrom (suc fuel) s (k ∷ bytes) =
-    let rest : End = endFrom fuel (recordPlan s k (take (bodyLength k) bytes)) (drop (bodyLength k) bytes) in
-    if ltb 9 k then endHere KIND s else
-    if ltb (length bytes) (bodyLength k) then endHere CUT s else endBehind (1 + bodyLength k) rest
+abbrev pub endFrom : ℕ → House → List ℕ → End
+endFrom zero h bytes = endHere 0 h
+endFrom (suc fuel) h [] = endHere 0 h
+endFrom (suc fuel) h (k ∷ bytes) =
+    let rest : End = endFrom fuel (recordHouse h k (take (bodyLength k) bytes)) (drop (bodyLength k) bytes) in
+    if not (isKind k) then endHere KIND h else
+    if ltb (length bytes) (bodyLength k) then endHere CUT h else endBehind (1 + bodyLength k) rest
 
 -- "After KIND or CUT reading ends": where, and with what
 unfoldable pub fileEnd : List ℕ → End
-fileEnd bytes = endFrom (length bytes) none bytes
+fileEnd bytes = endFrom (length bytes) newHouse bytes

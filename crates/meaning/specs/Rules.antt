@@ -8,7 +8,7 @@ use lib.Dec.{ltb, eqb}
 use Rattle.meaning.specs.Basics.{if_then_else_, all, any, count}
 use Rattle.meaning.specs.Filters.{Filter, filterOf, fitsNumber, rank, isBefore, isSame}
 
--- a rule: the 19 bytes of its filter, and the number of the set it names
+-- a rule: the bytes of its filter, and the number of the set it names
 pub record Rule : Type 0 where
   pub code : List ℕ
   pub set : ℕ

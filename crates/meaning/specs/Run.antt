@@ -3,6 +3,7 @@ use Prim.Native.Nat.{ℕ}
 use Prim.Native.Char.{code}
 use Prim.Native.String.{String, [] as empty, _∷_ as _before_}
 use mathlib.Core.List.{List, [], _∷_, _++_}
+use Rattle.meaning.specs.Calls.{OPEN-PLAN, ADD-SET, REMOVE-SET, ADD-RULE, NUMBER, LIST}
 use Rattle.meaning.specs.Examples.{openingBody, ruleBody, numberBody, subscriber, S1}
 
 -- a text as its ASCII bytes
@@ -22,14 +23,14 @@ unfoldable pub run : List ℕ
 run =
     file
     (
-    (0 ∷ openingBody [] (1 ∷ 1 ∷ 1 ∷ 1 ∷ []))
-    ∷ (1 ∷ S1 (2 ∷ []))
-    ∷ (4 ∷ ruleBody 1 [] 0)
-    ∷ (7 ∷ numberBody 1 subscriber 2 (0 ∷ 0 ∷ 1 ∷ 5 ∷ []))
-    ∷ (7 ∷ numberBody 1 subscriber 0 [])
-    ∷ (7 ∷ numberBody 0 subscriber 0 [])
-    ∷ (3 ∷ 0 ∷ 0 ∷ [])
-    ∷ (9 ∷ [])
+    (OPEN-PLAN ∷ openingBody [] (1 ∷ 1 ∷ 1 ∷ 1 ∷ []))
+    ∷ (ADD-SET ∷ S1 (2 ∷ []))
+    ∷ (ADD-RULE ∷ ruleBody 1 [] 0)
+    ∷ (NUMBER ∷ numberBody 1 subscriber 2 (0 ∷ 0 ∷ 1 ∷ 5 ∷ []))
+    ∷ (NUMBER ∷ numberBody 1 subscriber 0 [])
+    ∷ (NUMBER ∷ numberBody 0 subscriber 0 [])
+    ∷ (REMOVE-SET ∷ 0 ∷ 0 ∷ [])
+    ∷ (LIST ∷ [])
     ∷ []
     )
 

@@ -118,7 +118,7 @@ eightPlaces cs = take 8 (cs ++ replicate 8 0)
 unfoldable pub valueToSend : Settings → (ℕ → List ℕ) → Stage → ℕ → List ℕ
 valueToSend settings value s f =
     if leb f LAST-CONDITIONED then value f else
-    getD (s .rn ∷ s .sp ∷ s .asd ∷ s .grn ∷ settings .delimiterA ∷ settings .delimiterB ∷ []) (f - 11) []
+    getD (s .rn ∷ s .sp ∷ s .asd ∷ s .grn ∷ settings .delimiterA ∷ settings .delimiterB ∷ []) (f - RN) []
 
 -- "the FA values joined in order, empty ones adding nothing"
 abbrev pub join : (ℕ → List ℕ) → List ℕ → List ℕ

@@ -4,6 +4,7 @@ use mathlib.Core.Bool.{Bool, true, false, _&&_, _||_}
 use mathlib.Core.List.{List, [], _∷_}
 use lib.ListN.{length, take, drop, getD}
 use lib.Dec.{leb, ltb, eqb}
+use Rattle.meaning.specs.Sizes.{COUNTRY-AT, DFLTRN-AT, DELIMITER-A-AT, DELIMITER-B-AT, ANSWERS-AT, CLASS-AT, DIALLED-AT, LOOKUP-AT, ENTITY-IN, ASD-IN, GRN-IN, LOOKUP-BYTES, SETS-AT, SET-WIDTH, RULE-WIDTH}
 use Rattle.meaning.specs.Basics.{if_then_else_, all, allOf, isZero, within, word, part, isDigit, digitsOf, digitsInRange}
 
 -- CLASSES
@@ -20,7 +21,7 @@ AS-INCOMING = 255
 abbrev pub isOutgoingClass : ℕ → Bool
 isOutgoingClass c = isClass c || eqb c AS-INCOMING
 
--- ROOMS: the first 4 bytes of an opening
+-- ROOMS: the first bytes of an opening
 
 pub record Rooms : Type 0 where
   pub sets : ℕ
@@ -35,9 +36,9 @@ roomsInRange b = within 1 1024 (word b 0) && within 1 4096 (word b 2)
 
 -- ROOM: "64 bytes + 48 a set + 24 a rule of the rooms asked"
 unfoldable pub bytesNeeded : Rooms → ℕ
-bytesNeeded r = 64 + 48 * r .sets + 24 * r .rules
+bytesNeeded r = SETS-AT + SET-WIDTH * r .sets + RULE-WIDTH * r .rules
 
--- SETTINGS: the 36 bytes behind the rooms
+-- SETTINGS: the bytes behind the rooms
 
 pub record Settings : Type 0 where
   pub country : List ℕ
@@ -50,18 +51,18 @@ pub record Settings : Type 0 where
 unfoldable pub settingsOf : List ℕ → Settings
 settingsOf b =
     record {
-      country = digitsOf (part 0 4 b);
-      dfltrn = digitsOf (part 4 16 b);
-      delimiterA = digitsOf (part 20 6 b);
-      delimiterB = digitsOf (part 26 6 b);
-      answers = part 32 4 b;
+      country = digitsOf (part COUNTRY-AT 4 b);
+      dfltrn = digitsOf (part DFLTRN-AT 16 b);
+      delimiterA = digitsOf (part DELIMITER-A-AT 6 b);
+      delimiterB = digitsOf (part DELIMITER-B-AT 6 b);
+      answers = part ANSWERS-AT 4 b;
     }
 
 -- "default country code, 1 to 3 digits; default routing number DFLTRN, 0 to 15 ..; delimiters A and B, 0 to 5 each; .. 1 RELAY, 2 CONNECT, 3 CONTINUE, 4 RELEASECALL"
 abbrev pub settingsRanges : List ℕ → List Bool
 settingsRanges b =
-    digitsInRange 1 3 (part 0 4 b) ∷ digitsInRange 0 15 (part 4 16 b) ∷ digitsInRange 0 5 (part 20 6 b) ∷ digitsInRange 0 5 (part 26 6 b)
-    ∷ all (within 1 4) (part 32 4 b) ∷ []
+    digitsInRange 1 3 (part COUNTRY-AT 4 b) ∷ digitsInRange 0 15 (part DFLTRN-AT 16 b) ∷ digitsInRange 0 5 (part DELIMITER-A-AT 6 b)
+    ∷ digitsInRange 0 5 (part DELIMITER-B-AT 6 b) ∷ all (within 1 4) (part ANSWERS-AT 4 b) ∷ []
 
 unfoldable pub settingsInRange : List ℕ → Bool
 settingsInRange b = allOf (settingsRanges b)
@@ -75,10 +76,10 @@ pub record Lookup : Type 0 where
   pub asd : List ℕ
   pub grn : List ℕ
 
--- the last 39 bytes of a number's body: "lookup kind 1, entity 1+15, ASD 1+10, GRN 1+10"
+-- the lookup in a number's body: "lookup kind 1, entity 1+15, ASD 1+10, GRN 1+10"
 unfoldable pub lookupOf : List ℕ → Lookup
 lookupOf b =
-    record { kind = getD b 0 0; entity = digitsOf (part 1 16 b); asd = digitsOf (part 17 11 b); grn = digitsOf (part 28 11 b) }
+    record { kind = getD b 0 0; entity = digitsOf (part ENTITY-IN 16 b); asd = digitsOf (part ASD-IN 11 b); grn = digitsOf (part GRN-IN 11 b) }
 
 -- "Entity digits: 1 to 15 for kinds 2 and 3, else none"
 unfoldable pub entityInRange : ℕ → List ℕ → Bool
@@ -90,8 +91,8 @@ asdOrGrnInRange kind s = if isZero kind then digitsInRange 0 0 s else digitsInRa
 
 abbrev pub lookupRanges : List ℕ → List Bool
 lookupRanges b =
-    leb (getD b 0 0) 3 ∷ entityInRange (getD b 0 0) (part 1 16 b) ∷ asdOrGrnInRange (getD b 0 0) (part 17 11 b)
-    ∷ asdOrGrnInRange (getD b 0 0) (part 28 11 b) ∷ []
+    leb (getD b 0 0) 3 ∷ entityInRange (getD b 0 0) (part ENTITY-IN 16 b) ∷ asdOrGrnInRange (getD b 0 0) (part ASD-IN 11 b)
+    ∷ asdOrGrnInRange (getD b 0 0) (part GRN-IN 11 b) ∷ []
 
 unfoldable pub lookupInRange : List ℕ → Bool
 lookupInRange b = allOf (lookupRanges b)
@@ -102,12 +103,12 @@ pub record Number : Type 0 where
   pub digits : List ℕ
   pub lookup : Lookup
 
--- the 73 bytes of a number's body: "class 1, digits 1+32", and the lookup
+-- a number's body: "class 1, digits 1+32", and the lookup
 unfoldable pub numberOf : List ℕ → Number
-numberOf b = record { class = getD b 0 0; digits = digitsOf (part 1 33 b); lookup = lookupOf (part 34 39 b) }
+numberOf b = record { class = getD b CLASS-AT 0; digits = digitsOf (part DIALLED-AT 33 b); lookup = lookupOf (part LOOKUP-AT LOOKUP-BYTES b) }
 
 abbrev pub numberRanges : List ℕ → List Bool
-numberRanges b = isClass (getD b 0 0) ∷ digitsInRange 0 32 (part 1 33 b) ∷ lookupInRange (part 34 39 b) ∷ []
+numberRanges b = isClass (getD b CLASS-AT 0) ∷ digitsInRange 0 32 (part DIALLED-AT 33 b) ∷ lookupInRange (part LOOKUP-AT LOOKUP-BYTES b) ∷ []
 
 unfoldable pub numberInRange : List ℕ → Bool
 numberInRange b = allOf (numberRanges b)

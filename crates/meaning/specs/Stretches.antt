@@ -9,7 +9,7 @@ use lib.ListN.{length}
 use lib.Dec.{T}
 use Rattle.meaning.specs.Basics.{within, part}
 use Rattle.meaning.specs.Filters.{Filter}
-use Rattle.meaning.specs.Actions.{CA, isIGN, isX, isFPFX, isCCDEF, valueOf, ActionSet}
+use Rattle.meaning.specs.Actions.{LAST-COUNTED, CA, isIGN, isX, isFPFX, isCCDEF, valueOf, ActionSet}
 use Rattle.meaning.specs.Groups.{fixedSum}
 use Rattle.meaning.specs.Conditioning.{short, Stretch, digitsAt, joined}
 
@@ -21,7 +21,7 @@ pub data Covers (read : ℕ → Stretch) (prefix ds : List ℕ) : ℕ → List C
   -- nothing is left
   covered : Covers read prefix ds (length ds) []
   -- a fixed action: exactly its count of digits
-  fixed : {at : ℕ} {a : CA} {xs : List CA} → T (within 2 10 (a .code)) → read (valueOf (a .code)) ≡ stretchAt at (a .count)
+  fixed : {at : ℕ} {a : CA} {xs : List CA} → T (within 2 LAST-COUNTED (a .code)) → read (valueOf (a .code)) ≡ stretchAt at (a .count)
       → at + a .count ≤ length ds → Covers read prefix ds (at + a .count) xs → Covers read prefix ds at (a ∷ xs)
   -- "IGN drops its digits"
   ignored : {at : ℕ} {a : CA} {xs : List CA} → T (isIGN a)

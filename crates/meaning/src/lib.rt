@@ -2,6 +2,13 @@
 ghost use mathlib.Core.Path.{_≡_};
 ghost use Rattle.meaning.specs.Answers.{classOf, outgoingOf, codeOf, numberOfRefusal, numberOfProvisioned};
 
+pub mod ca;
+pub mod fa;
+pub mod kinds;
+pub mod refusals;
+pub mod sa;
+pub mod sizes;
+
 // A class of numbers: INTL, NATL, UNKNOWN and three house classes.
 pub struct Class(u8);
 
@@ -98,19 +105,19 @@ impl Refusal {
         ensures { λ r. ⌜ r ≡ numberOfRefusal self ⌝ }
     {
         match self {
-            Refusal::Cut => 1,
-            Refusal::Kind => 2,
-            Refusal::Plan => 3,
-            Refusal::Room => 4,
-            Refusal::Range => 5,
-            Refusal::Groups => 6,
-            Refusal::Taken => 7,
-            Refusal::Absent => 8,
-            Refusal::Misfit => 9,
-            Refusal::Full => 10,
-            Refusal::InUse => 11,
-            Refusal::Short => 12,
-            Refusal::Long => 13,
+            Refusal::Cut => refusals::CUT,
+            Refusal::Kind => refusals::KIND,
+            Refusal::Plan => refusals::PLAN,
+            Refusal::Room => refusals::ROOM,
+            Refusal::Range => refusals::RANGE,
+            Refusal::Groups => refusals::GROUPS,
+            Refusal::Taken => refusals::TAKEN,
+            Refusal::Absent => refusals::ABSENT,
+            Refusal::Misfit => refusals::MISFIT,
+            Refusal::Full => refusals::FULL,
+            Refusal::InUse => refusals::IN_USE,
+            Refusal::Short => refusals::SHORT,
+            Refusal::Long => refusals::LONG,
         }
     }
 }
@@ -127,7 +134,7 @@ impl Provisioned {
         ensures { λ r. ⌜ r ≡ numberOfProvisioned self ⌝ }
     {
         match self {
-            Provisioned::Accepted => 0,
+            Provisioned::Accepted => refusals::ACCEPTED,
             Provisioned::Refused(r) => r.number(),
         }
     }

@@ -7,7 +7,7 @@ use native.Mathlib.Omega.{arith}
 use lib.ListN.{length}
 use lib.Dec.{eqb}
 use borrow.Author.Tests.{eqb-true, eqb-false}
-use Rattle.filter.specs.Slots.{RULE-WIDTH}
+use Rattle.meaning.specs.Sizes.{RULE-WIDTH}
 use Rattle.narrowing.specs.Columns.{byteAt, Start, Narrowed}
 
 -- what is left between low and high: a byte below d before it, and one that is not behind it

@@ -12,13 +12,14 @@ use lib.ListN.{length, take, drop, getD, length-drop, List·getD-map}
 use lib.Seq.{getD-take, getD-drop, length-take-le}
 use lib.Dec.{T, ltb, lit<}
 use borrow.Author.Tests.{ltb-true, ltb-false}
+use Rattle.meaning.specs.Sizes.{CLASS-AT, PREFIX-AT, PREFIX-DIGITS-AT, LENGTH-AT, RULE-WIDTH}
 use Rattle.meaning.specs.Basics.{all}
 use Rattle.meaning.specs.Filters.{Filter, filterOf, compareFilters, isLt, isBefore}
 use Rattle.meaning.specs.Rules.{Rule, filterIn, weight, chosenPlace, inOrder}
 use Rattle.meaning.proofs.Tests.{true-is, and-left, and-right, all-place}
 use Rattle.buffer.specs.Slots.{slots}
 use Rattle.buffer.proofs.SlotLaws.{slot-at}
-use Rattle.filter.specs.Slots.{RULE-WIDTH, FilterBytes, RuleArea, ruleOf, rulesOf}
+use Rattle.filter.specs.Slots.{FilterBytes, RuleArea, ruleOf, rulesOf}
 use Rattle.filter.proofs.FilterLaws.{prefix-is}
 use Rattle.filter.proofs.RuleLaws.{filter-in, length-rules, slot-bytes, Left, left-all, left-better, left-worse, left-none}
 use Rattle.narrowing.specs.Columns.{byteAt, Narrowed, lengthWeight}
@@ -40,29 +41,29 @@ module _ (n : ℕ) (m : List ℕ) (area : RuleArea n m) (k : ℕ) (inside : k < 
   bytes : FilterBytes (take RULE-WIDTH (drop (RULE-WIDTH * k) m))
   bytes = rw (lent k) at (slot-bytes n k m area inside)
 
-  class-at : filterAt m k .class ≡ byteAt m 0 k
+  class-at : filterAt m k .class ≡ byteAt m CLASS-AT k
   unfolding filterOf
-  class-at = slot-byte m k 0 (lit< tt)
+  class-at = slot-byte m k CLASS-AT (lit< tt)
 
-  len-at : filterAt m k .len ≡ byteAt m 18 k
+  len-at : filterAt m k .len ≡ byteAt m LENGTH-AT k
   unfolding filterOf
-  len-at = slot-byte m k 18 (lit< tt)
+  len-at = slot-byte m k LENGTH-AT (lit< tt)
 
-  few-at : byteAt m 1 k ≤ 16
-  few-at = rw (slot-byte m k 1 (lit< tt)) at (bytes .prefix)
+  few-at : byteAt m PREFIX-AT k ≤ 16
+  few-at = rw (slot-byte m k PREFIX-AT (lit< tt)) at (bytes .prefix)
 
-  prefix-at : length (filterAt m k .prefix) ≡ byteAt m 1 k
+  prefix-at : length (filterAt m k .prefix) ≡ byteAt m PREFIX-AT k
   prefix-at =
       let s = take RULE-WIDTH (drop (RULE-WIDTH * k) m) in
-      let h : getD s 1 0 ≤ length (drop 2 s) = simp length-drop (omega (arith, bytes .whole, bytes .prefix)) in
-      ap length (prefix-is s bytes) ∙ length-take-le (getD s 1 0) (drop 2 s) h ∙ slot-byte m k 1 (lit< tt)
+      let h : getD s PREFIX-AT 0 ≤ length (drop PREFIX-DIGITS-AT s) = simp length-drop (omega (arith, bytes .whole, bytes .prefix)) in
+      ap length (prefix-is s bytes) ∙ length-take-le (getD s PREFIX-AT 0) (drop PREFIX-DIGITS-AT s) h ∙ slot-byte m k PREFIX-AT (lit< tt)
 
-  digit-at : (j : ℕ) → j < length (filterAt m k .prefix) → getD (filterAt m k .prefix) j 0 ≡ byteAt m (2 + j) k
+  digit-at : (j : ℕ) → j < length (filterAt m k .prefix) → getD (filterAt m k .prefix) j 0 ≡ byteAt m (PREFIX-DIGITS-AT + j) k
   digit-at j h =
       let s = take RULE-WIDTH (drop (RULE-WIDTH * k) m) in
-      let l : j < getD s 1 0 = omega (arith, prefix-at, slot-byte m k 1 (lit< tt)) in
-      let w : 2 + j < RULE-WIDTH = omega (arith, bytes .prefix) in
-      ap (λ (ps : List ℕ). getD ps j 0) (prefix-is s bytes) ∙ getD-take (getD s 1 0) (drop 2 s) j 0 l ∙ getD-drop 2 s j 0 ∙ slot-byte m k (2 + j) w
+      let l : j < getD s PREFIX-AT 0 = omega (arith, prefix-at, slot-byte m k PREFIX-AT (lit< tt)) in
+      let w : PREFIX-DIGITS-AT + j < RULE-WIDTH = omega (arith, bytes .prefix) in
+      ap (λ (ps : List ℕ). getD ps j 0) (prefix-is s bytes) ∙ getD-take (getD s PREFIX-AT 0) (drop PREFIX-DIGITS-AT s) j 0 l ∙ getD-drop PREFIX-DIGITS-AT s j 0 ∙ slot-byte m k (PREFIX-DIGITS-AT + j) w
 
 -- THE ORDER OF TWO PLACES
 
@@ -89,7 +90,7 @@ places-ordered n m order a b h k =
     ordered (rulesOf n m) (ruleOf []) a b (true-is _ order) h (rw (length-rules n m) k) in
     rw (rule-filter n m a (omega arith), rule-filter n m b k) at e
 
-class-rising : (n : ℕ) (m : List ℕ) → RuleArea n m → inOrder (rulesOf n m) ≡ true → Rising m 0 n 0
+class-rising : (n : ℕ) (m : List ℕ) → RuleArea n m → inOrder (rulesOf n m) ≡ true → Rising m 0 n CLASS-AT
 class-rising n m area order a b h l k =
     rw (class-at n m area a (omega arith), class-at n m area b k) at (classes-rise (filterAt m a) (filterAt m b) (places-ordered n m order a b l k))
 
@@ -134,10 +135,10 @@ pub record Reached (m : List ℕ) (n class : ℕ) (ds : List ℕ) (best : Option
 
 module _ {n : ℕ} {m : List ℕ} (area : RuleArea n m) (order : inOrder (rulesOf n m) ≡ true) {class : ℕ} {ds : List ℕ} where
   -- the places of the number's class
-  pub class-reached : {d lo hi : ℕ} → d ≡ class → Narrowed m 0 n 0 d lo hi → Reached m n class ds none 0 0 lo hi
+  pub class-reached : {d lo hi : ℕ} → d ≡ class → Narrowed m 0 n CLASS-AT d lo hi → Reached m n class ds none 0 0 lo hi
   class-reached {d} {lo} {hi} e s =
-      let p : Parted m 0 n 0 d lo hi = parted m 0 n 0 d lo hi (class-rising n m area order) s in
-      let apart : (k : ℕ) → k < n → byteAt m 0 k ≢ d → weight class ds (filterAt m k) ≡ 0 =
+      let p : Parted m 0 n CLASS-AT d lo hi = parted m 0 n CLASS-AT d lo hi (class-rising n m area order) s in
+      let apart : (k : ℕ) → k < n → byteAt m CLASS-AT k ≢ d → weight class ds (filterAt m k) ≡ 0 =
       λ k h q. other-class class ds (filterAt m k) (λ x. q (sym (class-at n m area k h) ∙ x ∙ sym e)) in
       record {
         low = p .along;
@@ -164,7 +165,7 @@ module _ {n : ℕ} {m : List ℕ} (area : RuleArea n m) (order : inOrder (rulesO
       first = omega (arith, r .high)
 
       -- the prefix of the first place is the digits so far: its length decides
-      module _ {w l : ℕ} (ends : byteAt m 1 lo ≡ j) (l-is : l ≡ byteAt m 18 lo) (w-is : w ≡ lengthWeight j (length ds) l) where
+      module _ {w l : ℕ} (ends : byteAt m PREFIX-AT lo ≡ j) (l-is : l ≡ byteAt m LENGTH-AT lo) (w-is : w ≡ lengthWeight j (length ds) l) where
         own-weight : w ≡ weight class ds (filterOf (take (RULE-WIDTH * lo + RULE-WIDTH - RULE-WIDTH * lo) (drop (RULE-WIDTH * lo) m)))
         own-weight =
             let a = r .agree lo (omega arith) more in
@@ -193,7 +194,7 @@ module _ {n : ℕ} {m : List ℕ} (area : RuleArea n m) (order : inOrder (rulesO
         own-worse h = behind best most (left-worse m n class ds best most lo (r .left) w first own-weight h)
 
       -- it goes on, and so do those of all places behind it
-      module _ (goes : byteAt m 1 lo ≢ j) where
+      module _ (goes : byteAt m PREFIX-AT lo ≢ j) where
         first-longer : j < length (filterAt m lo .prefix)
         first-longer = omega (arith, prefix-at n m area lo first, r .agree lo (omega arith) more .long, goes)
 
@@ -225,19 +226,19 @@ module _ {n : ℕ} {m : List ℕ} (area : RuleArea n m) (order : inOrder (rulesO
             go k g l false q = r .unfit k (ltb-false k hi q) l
 
         -- the number goes on with digit d: the places whose prefix does too
-        module _ (on : j < length ds) {d from to : ℕ} (d-is : d ≡ getD ds j 0) (s : Narrowed m lo hi (2 + j) d from to) where
-          byte-is : (k : ℕ) → lo ≤ k → k < hi → getD (filterAt m k .prefix) j 0 ≡ byteAt m (2 + j) k
+        module _ (on : j < length ds) {d from to : ℕ} (d-is : d ≡ getD ds j 0) (s : Narrowed m lo hi (PREFIX-DIGITS-AT + j) d from to) where
+          byte-is : (k : ℕ) → lo ≤ k → k < hi → getD (filterAt m k .prefix) j 0 ≡ byteAt m (PREFIX-DIGITS-AT + j) k
           byte-is k h g = digit-at n m area k (omega (arith, r .high)) j (longer k h g)
 
-          rising : Rising m lo hi (2 + j)
+          rising : Rising m lo hi (PREFIX-DIGITS-AT + j)
           rising a b h l k = rw (byte-is a h (omega arith), byte-is b (omega arith) k) at (rise a b h l k (longer a h (omega arith)) .1)
 
-          apart : (k : ℕ) → lo ≤ k → k < hi → byteAt m (2 + j) k ≢ d → weight class ds (filterAt m k) ≡ 0
+          apart : (k : ℕ) → lo ≤ k → k < hi → byteAt m (PREFIX-DIGITS-AT + j) k ≢ d → weight class ds (filterAt m k) ≡ 0
           apart k h g q = other-digit class ds (filterAt m k) j (longer k h g) on (λ x. q (sym (byte-is k h g) ∙ x ∙ sym d-is))
 
           pub digit-reached : Reached m n class ds best most (j + 1) from to
           digit-reached =
-              let p : Parted m lo hi (2 + j) d from to = parted m lo hi (2 + j) d from to rising s in
+              let p : Parted m lo hi (PREFIX-DIGITS-AT + j) d from to = parted m lo hi (PREFIX-DIGITS-AT + j) d from to rising s in
               record {
                 low = p .along;
                 high = omega (arith, p .high, r .high);
@@ -251,7 +252,7 @@ module _ {n : ℕ} {m : List ℕ} (area : RuleArea n m) (order : inOrder (rulesO
                 unfit = λ k h g. over k (omega (arith, h, p .low, p .along)) g (p .above k h) (ltb k hi) refl;
               }
             where
-              agrees : (k : ℕ) → lo ≤ k → k < hi → byteAt m (2 + j) k ≡ d → Agrees class ds (j + 1) (filterAt m k)
+              agrees : (k : ℕ) → lo ≤ k → k < hi → byteAt m (PREFIX-DIGITS-AT + j) k ≡ d → Agrees class ds (j + 1) (filterAt m k)
               agrees k h g e =
                   let a = r .agree k h g in
                   record {
@@ -260,6 +261,6 @@ module _ {n : ℕ} {m : List ℕ} (area : RuleArea n m) (order : inOrder (rulesO
                     same = one-more (filterAt m k .prefix) ds j (a .same) (longer k h g) on (byte-is k h g ∙ e ∙ d-is);
                   }
 
-              over : (k : ℕ) → lo ≤ k → k < n → (k < hi → d < byteAt m (2 + j) k) → (t : Bool) → ltb k hi ≡ t → weight class ds (filterAt m k) ≡ 0
+              over : (k : ℕ) → lo ≤ k → k < n → (k < hi → d < byteAt m (PREFIX-DIGITS-AT + j) k) → (t : Bool) → ltb k hi ≡ t → weight class ds (filterAt m k) ≡ 0
               over k h g up true q = apart k h (ltb-true k hi q) (λ x. omega (arith, x, up (ltb-true k hi q)))
               over k h g up false q = r .unfit k (ltb-false k hi q) g

@@ -2,9 +2,9 @@
 use Prim.Native.Nat.{ℕ, _+_, _*_, _-_, _≤_, _<_}
 use mathlib.Core.List.{List}
 use lib.ListN.{length, getD}
+use Rattle.meaning.specs.Sizes.{RULE-WIDTH}
 use Rattle.meaning.specs.Basics.{if_then_else_}
 use Rattle.meaning.specs.Filters.{lengthFits, stated}
-use Rattle.filter.specs.Slots.{RULE-WIDTH}
 
 -- the byte at an offset of the slot at place k
 abbrev pub byteAt : List ℕ → ℕ → ℕ → ℕ

@@ -8,15 +8,11 @@ ghost use Rattle.filter.specs.Slots.{RuleArea, rulesOf};
 ghost use Rattle.narrowing.specs.Columns.{Column, Start, Narrowed, lengthWeight};
 use meaning::Chosen;
 use meaning::RulePlace;
-
-// Where a slot has its class, its prefix's length and digits, and its length.
-const CLASS: usize = 0;
-
-const PREFIX: usize = 1;
-
-const DIGITS: usize = 2;
-
-const LENGTH: usize = 18;
+use meaning::sizes::CLASS_AT;
+use meaning::sizes::LENGTH_AT;
+use meaning::sizes::PREFIX_AT;
+use meaning::sizes::PREFIX_DIGITS_AT;
+use meaning::sizes::RULE_WIDTH;
 
 // The places from `lo` to before `hi`.
 struct Places {
@@ -33,7 +29,7 @@ fn first_from(rules: &[u8], lo: usize, hi: usize, column: usize, d: usize) -> us
     let mut high = hi;
     while low < high {
         let mid = low + (high - low) / 2;
-        let b = buffer::wide(rules[filter::RULE_WIDTH * mid + column]);
+        let b = buffer::wide(rules[RULE_WIDTH * mid + column]);
         if b < d {
             low = mid + 1;
         } else {
@@ -74,16 +70,16 @@ pub fn choose(rules: &[u8], count: usize, class: u8, digits: &[u8]) -> Chosen
     requires { ⌜ inOrder (rulesOf count (now rules)) ≡ true ⌝ }
     ensures { λ r. ⌜ placeChosen r ≡ chosenPlace class (now (digits .entry)) (rulesOf count (now (rules .entry))) ⌝ }
 {
-    let p = narrow(rules, 0, count, CLASS, buffer::wide(class));
+    let p = narrow(rules, 0, count, CLASS_AT, buffer::wide(class));
     let mut lo = p.lo;
     let mut hi = p.hi;
     let mut best = Chosen::NoRule;
     let mut most: usize = 0;
     let mut j: usize = 0;
     while lo < hi {
-        let a = filter::RULE_WIDTH * lo;
-        if buffer::wide(rules[a + PREFIX]) == j {
-            let w = weigh_length(rules[a + LENGTH], j, digits.len());
+        let a = RULE_WIDTH * lo;
+        if buffer::wide(rules[a + PREFIX_AT]) == j {
+            let w = weigh_length(rules[a + LENGTH_AT], j, digits.len());
             if most < w {
                 best = Chosen::At(RulePlace(lo as u16));
                 most = w;
@@ -93,7 +89,7 @@ pub fn choose(rules: &[u8], count: usize, class: u8, digits: &[u8]) -> Chosen
             if digits.len() <= j {
                 return best;
             }
-            let q = narrow(rules, lo, hi, DIGITS + j, buffer::wide(digits[j]));
+            let q = narrow(rules, lo, hi, PREFIX_DIGITS_AT + j, buffer::wide(digits[j]));
             lo = q.lo;
             hi = q.hi;
             j += 1;

@@ -3,6 +3,7 @@
 use libc::STDERR_FILENO;
 use libc::STDIN_FILENO;
 use libc::STDOUT_FILENO;
+use meaning::sizes::RUN_BYTES;
 use stream::Turned;
 
 // Names what failed.
@@ -21,7 +22,7 @@ fn report(turned: Turned, name: &[u8]) {
 
 // The lines of the records that a descriptor gives.
 fn run(from: i32, name: &[u8]) {
-    let mut plan = [0u8; 15424];
+    let mut plan = [0u8; RUN_BYTES];
     let mut input = io::large_buffer();
     let mut output = io::large_buffer();
     let turned = stream::copy(from, STDOUT_FILENO, &mut plan, &mut input, &mut output);

@@ -7,6 +7,7 @@ use native.Mathlib.Nat.{sub-zero}
 use native.Mathlib.Omega.{arith}
 use lib.ListN.{length, take, drop, getD, length-take, length-drop}
 use borrow.Author.Tests.{le-leb, lt-leb}
+use Rattle.meaning.specs.Sizes.{OUTGOING-AT}
 use Rattle.meaning.specs.Basics.{isEmpty, writtenOver}
 use Rattle.meaning.specs.Refusals.{SHORT, LONG}
 use Rattle.meaning.specs.Settings.{Settings, Number, settingsOf}
@@ -110,7 +111,7 @@ module _ {sas settings lookup : List ℕ} {r : Served} (s : ServedAnew sas setti
       rw (responded-after s fas, withheld-after s fas, served-is RESPONDED incoming [], served-is UNCHANGED incoming [], served-is FORMATTED class ds)
 
 module _ (settings lookup : List ℕ) (class : ℕ) (digits : List ℕ) (prefix : ℕ) (content : List ℕ) where
-  module _ (cas : List ℕ) (cas-is : cas ≡ caBytes content) (sent : ℕ) (sent-is : sent ≡ outgoingClass (getD content 0 0) class) where
+  module _ (cas : List ℕ) (cas-is : cas ≡ caBytes content) (sent : ℕ) (sent-is : sent ≡ outgoingClass (getD content OUTGOING-AT 0) class) where
     pub given-escaped : isEmpty (casOf cas) ≡ true → givenBy settings lookup class digits prefix content ≡ unserved ESCAPED sent
     unfolding answerWith actionsOf
     given-escaped e = let f : isEmpty (casOf (caBytes content)) ≡ true = rw (← cas-is) e in rw (f, ← sent-is)
@@ -132,7 +133,7 @@ module _ (settings lookup : List ℕ) (class : ℕ) (digits : List ℕ) (prefix 
           let g : short prefix (length digits) (casOf (caBytes content)) ≡ false = rw (← cas-is) e in
           let d : List ℕ = join (valueToSend (settingsOf settings) (valueFrom (settingsOf settings .country) prefix digits (casOf cas)) (stageAfter (codesOf fas) sas settings lookup)) (codesOf fas) in
           let is : givenBy settings lookup class digits prefix content ≡ afterServices class sent (stageAfter (codesOf fas) sas settings lookup) d =
-          rw (f, g, sas-is, fas-is, cas-is, ← sent-is) in
+          rw (f, g, fas-is, sas-is, cas-is, ← sent-is) in
           is ∙ (after-is done (codesOf fas) class sent d ∙ ap (finished class sent s) (sym (outgoing-after done digits cas prefix fas)))
 
       -- so what follows the service actions is the answer

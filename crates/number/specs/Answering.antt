@@ -6,6 +6,7 @@ use mathlib.Core.List.{List, []}
 use mathlib.Core.Option.{some}
 use lib.ListN.{length, getD}
 use lib.Dec.{leb}
+use Rattle.meaning.specs.Sizes.{SETTINGS-BYTES, CONTENT-BYTES, CLASS-AT, NUMBER-BYTES}
 use Rattle.meaning.specs.Basics.{if_then_else_, isEmpty}
 use Rattle.meaning.specs.Refusals.{SHORT, LONG}
 use Rattle.meaning.specs.Settings.{Settings, Number, settingsOf, lookupOf, numberOf, numberInRange}
@@ -51,14 +52,18 @@ abbrev pub givenBy : List ℕ → List ℕ → ℕ → List ℕ → ℕ → List
 givenBy settings lookup class digits prefix content =
     answerWith (settingsOf settings) (record { class = class; digits = digits; lookup = lookupOf lookup }) prefix (actionsOf content)
 
+-- the bytes that the outgoing digits take while they are made: room for all of them, and behind them for the two blocks that a value may take
+abbrev pub ANSWER-BYTES : ℕ
+ANSWER-BYTES = 64
+
 -- the settings, a body of n digits with its lookup's kind in range, a set's content, and room
 pub record Answerable (settings body : List ℕ) (n : ℕ) (content out : List ℕ) : Type 0 where
-  pub settings-long : length settings ≡ 36
-  pub body-long : length body ≡ 73
+  pub settings-long : length settings ≡ SETTINGS-BYTES
+  pub body-long : length body ≡ NUMBER-BYTES
   pub kind : getD (lookupIn body) 0 0 ≤ 3
   pub few : n ≤ 32
-  pub content-long : length content ≡ 45
-  pub room : 64 ≤ length out
+  pub content-long : length content ≡ CONTENT-BYTES
+  pub room : ANSWER-BYTES ≤ length out
 
 -- ds are the digits of a body
 pub record Digits (body ds : List ℕ) : Type 0 where
@@ -69,7 +74,7 @@ pub record Digits (body ds : List ℕ) : Type 0 where
 -- a sound plan, and a number's body in range
 pub record Known (m body : List ℕ) : Type 0 where
   pub sound : soundOf m ≡ true
-  pub whole : length body ≡ 73
+  pub whole : length body ≡ NUMBER-BYTES
   pub range : numberInRange body ≡ true
 
 -- and room for the outgoing digits
@@ -80,11 +85,11 @@ pub record Ready (m body out : List ℕ) : Type 0 where
 -- and for two blocks behind them
 pub record Holdable (m body out : List ℕ) : Type 0 where
   pub known : Known m body
-  pub room : 64 ≤ length out
+  pub room : ANSWER-BYTES ≤ length out
 
 -- and the rule chosen, at place k, for the n digits of the body
 pub record Placed (m body : List ℕ) (n k : ℕ) (out : List ℕ) : Type 0 where
   pub holdable : Holdable m body out
   pub digits : digitsIn n body ≡ numberOf body .digits
   pub few : n ≤ 32
-  pub place : chosenPlace (getD body 0 0) (digitsIn n body) (planOf m .rules) ≡ some k
+  pub place : chosenPlace (getD body CLASS-AT 0) (digitsIn n body) (planOf m .rules) ≡ some k

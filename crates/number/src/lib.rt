@@ -5,39 +5,43 @@ use choice::prefix_at;
 use conditioning::PLACES;
 use conditioning::mark_spans;
 use formatting::join_outgoing;
+use meaning::sizes::CLASS_AT;
+use meaning::sizes::DIALLED_AT;
+use meaning::sizes::DIALLED_DIGITS_AT;
+use meaning::sizes::DIGIT_ROOM;
+use meaning::sizes::LOOKUP_AT;
+use meaning::sizes::NUMBER_BYTES;
+use meaning::sizes::OUTGOING_AT;
+use meaning::sizes::VALUE_BYTES;
 use services::Served;
 ghost use mathlib.Core.Path.{_≡_};
 ghost use mathlib.Core.Bool.{true};
 ghost use Prim.Native.Nat.{_≤_};
 ghost use lib.ListN.{length, getD};
+ghost use Rattle.meaning.specs.Sizes.{CLASS-AT, NUMBER-BYTES};
 ghost use Rattle.meaning.specs.Settings.{numberOf, numberInRange};
 ghost use Rattle.meaning.specs.Answer.{refused, unserved, outgoingClass, answerOf};
 ghost use Rattle.meaning.specs.Answers.{answeredAs};
 ghost use Rattle.formatting.specs.Sources.{lookupIn, digitsIn, Formattable};
 ghost use Rattle.formatting.specs.Joins.{outgoingBy};
 ghost use Rattle.plan.specs.Layout.{planOf};
-ghost use Rattle.number.specs.Answering.{countedAs, finished, givenBy, Answerable, Digits, Ready, Holdable, Placed};
+ghost use Rattle.number.specs.Answering.{ANSWER-BYTES, countedAs, finished, givenBy, Answerable, Digits, Ready, Holdable, Placed};
 ghost use Rattle.number.specs.Promises.{HoldsAnswer, GivesAnswer, AnswerPromise};
 use meaning::Answered;
 use meaning::Chosen;
 use meaning::Class;
 use meaning::OutgoingOf;
 use meaning::RulePlace;
+use meaning::refusals::ACCEPTED;
+use meaning::refusals::CUT;
+use meaning::refusals::LONG;
+use meaning::refusals::PLAN;
+use meaning::refusals::RANGE;
+use meaning::refusals::ROOM;
+use meaning::refusals::SHORT;
 
-// The bytes of a number's body, and where its lookup begins.
-const BODY: usize = 73;
-
-const LOOKUP: usize = 34;
-
-// Where a body has its count of digits, and where these begin.
-const COUNT: usize = 1;
-
-const DIGITS: usize = 2;
-
-// The most digits of an answer, and the bytes of the buffer that is lent for them.
+// The most digits of an answer.
 const MOST: usize = 32;
-
-const ROOM_BYTES: usize = 35;
 
 // The bytes that the outgoing digits take while they are made: behind them is room for the two blocks that a value may take.
 pub const ANSWER_BYTES: usize = 64;
@@ -55,19 +59,6 @@ const RESPONDED: u8 = 2;
 const UNCHANGED: u8 = 3;
 
 const FORMATTED: u8 = 4;
-
-// The refusals.
-const CUT: u8 = 1;
-
-const PLAN: u8 = 3;
-
-const ROOM: u8 = 4;
-
-const RANGE: u8 = 5;
-
-const SHORT: u8 = 12;
-
-const LONG: u8 = 13;
 
 // A refusal: its number, and every other field 0.
 fn refused(number: u8) -> Answered
@@ -89,7 +80,7 @@ fn unserved(outcome: u8, class: u8) -> Answered
     ensures { λ r. ⌜ r ≡ answeredAs (unserved outcome class) ⌝ }
 {
     Answered {
-        refusal: 0,
+        refusal: ACCEPTED,
         outcome: outcome,
         class: class,
         response: 0,
@@ -105,7 +96,7 @@ fn served(outcome: u8, class: u8, s: Served, digits: usize) -> Answered
 {
     let actions = s.actions;
     Answered {
-        refusal: 0,
+        refusal: ACCEPTED,
         outcome: outcome,
         class: class,
         response: s.response,
@@ -140,7 +131,7 @@ fn finish(
     class: u8,
     out: &mut [u8],
 ) -> Answered
-    requires { ⌜ Formattable (now settings) (now body) (now starts) (now counts) × (64 ≤ length (now out)) ⌝ }
+    requires { ⌜ Formattable (now settings) (now body) (now starts) (now counts) × (ANSWER-BYTES ≤ length (now out)) ⌝ }
     ensures { λ r. ⌜ HoldsAnswer (finished incoming class s (outgoingBy (now (settings .entry)) (now (body .entry)) (now (cas .entry)) (now (starts .entry)) (now (counts .entry)) s (now (fas .entry)))) (now (out .exit)) r ⌝ }
 {
     if CONNECT <= s.response {
@@ -166,20 +157,24 @@ fn answer_by(
     out: &mut [u8],
 ) -> Answered
     requires { ⌜ Answerable (now settings) (now body) n (now content) (now out) ⌝ }
-    ensures { λ r. ⌜ HoldsAnswer (givenBy (now (settings .entry)) (lookupIn (now (body .entry))) (getD (now (body .entry)) 0 0) (digitsIn n (now (body .entry))) prefix (now (content .entry))) (now (out .exit)) r ⌝ }
+    ensures { λ r. ⌜ HoldsAnswer (givenBy (now (settings .entry)) (lookupIn (now (body .entry))) (getD (now (body .entry)) CLASS-AT 0) (digitsIn n (now (body .entry))) prefix (now (content .entry))) (now (out .exit)) r ⌝ }
 {
-    let class = body[0];
+    let class = body[CLASS_AT];
     let cas = ranges::cas_of(content);
-    let sent = outgoing_class(content[0], class);
+    let sent = outgoing_class(content[OUTGOING_AT], class);
     if actions::no_conditioning(cas) {
         return unserved(ESCAPED, sent);
     }
     let mut starts = [0u8; PLACES];
     let mut counts = [0u8; PLACES];
-    if mark_spans(cas, prefix, n, DIGITS, &mut starts, &mut counts) {
+    if mark_spans(cas, prefix, n, DIALLED_DIGITS_AT, &mut starts, &mut counts) {
         return refused(SHORT);
     }
-    let s = services::service_stage(ranges::sas_of(content), settings, &body[LOOKUP..BODY]);
+    let s = services::service_stage(
+        ranges::sas_of(content),
+        settings,
+        &body[LOOKUP_AT..VALUE_BYTES],
+    );
     let fas = ranges::fas_of(content);
     finish(
         settings,
@@ -197,11 +192,11 @@ fn answer_by(
 
 // The digits of a body in range.
 fn digits_in<'a>(body: &'a [u8]) -> &'a [u8]
-    requires { ⌜ (length (now body) ≡ 73) × (numberInRange (now body) ≡ true) ⌝ }
+    requires { ⌜ (length (now body) ≡ NUMBER-BYTES) × (numberInRange (now body) ≡ true) ⌝ }
     ensures { λ r. ⌜ Digits (now (body .entry)) (now r) ⌝ }
 {
-    let e = buffer::wide(body[COUNT]) + DIGITS;
-    &body[DIGITS..e]
+    let e = buffer::wide(body[DIALLED_AT]) + DIALLED_DIGITS_AT;
+    &body[DIALLED_DIGITS_AT..e]
 }
 
 // The answer by the rule chosen, which stands at a place, for a number of n digits.
@@ -222,7 +217,7 @@ pub fn answer_held(plan: &[u8], body: &[u8], out: &mut [u8]) -> Answered
     ensures { λ r. ⌜ HoldsAnswer (answerOf (planOf (now (plan .entry))) (numberOf (now (body .entry)))) (now (out .exit)) r ⌝ }
 {
     let digits = digits_in(body);
-    let class = body[0];
+    let class = body[CLASS_AT];
     match choose(plan, class, digits) {
         Chosen::NoRule => unserved(NO_RULE, class),
         Chosen::At(place) => answer_at(plan, body, digits.len(), place, out),
@@ -245,16 +240,16 @@ pub fn answer_known(plan: &[u8], body: &[u8], out: &mut [u8]) -> Answered
 pub fn answer(plan: &[u8], body: &[u8], out: &mut [u8]) -> Answered
     ensures { λ r. ⌜ AnswerPromise (now (plan .entry)) (now (body .entry)) (now (out .entry)) (now (out .exit)) r ⌝ }
 {
-    if body.len() < BODY {
+    if body.len() < NUMBER_BYTES {
         return refused(CUT);
     }
     if !examiner::sound(plan) {
         return refused(PLAN);
     }
-    if out.len() < ROOM_BYTES {
+    if out.len() < DIGIT_ROOM {
         return refused(ROOM);
     }
-    let number = &body[0..BODY];
+    let number = &body[0..NUMBER_BYTES];
     if !settings::number_in_range(number) {
         return refused(RANGE);
     }

@@ -10,6 +10,7 @@ use lib.ListN.{length, take, drop, getD, length-map, length-drop, List·getD-map
 use lib.Seq.{getD-take, getD-drop, drop-drop, length-take-le}
 use lib.Dec.{T, eqb, leb, leb→le, le→leb, lit<, lit≤}
 use borrow.Author.Tests.{eq-eqb, ne-eqb, leb-false}
+use Rattle.meaning.specs.Sizes.{ROOMS-BYTES, CONTENT-BYTES, PREFIX-AT, FILTER-BYTES, HEADER-BYTES, SETS-AT, CONTENT-AT, COUNT-AT, SET-WIDTH, RULE-WIDTH}
 use Rattle.meaning.specs.Basics.{if_then_else_, all, count, isZero, isSome, within, word, part}
 use Rattle.meaning.specs.Settings.{roomsOf, roomsInRange, bytesNeeded}
 use Rattle.meaning.specs.Filters.{filterInRange}
@@ -40,11 +41,11 @@ word-part a n k m h =
 
 pub set-room-read : (m : List ℕ) → word m 8 ≡ setRoom m
 unfolding roomsOf
-set-room-read m = sym (word-part 8 4 0 m (lit< tt))
+set-room-read m = sym (word-part 8 ROOMS-BYTES 0 m (lit< tt))
 
 pub rule-room-read : (m : List ℕ) → word m 10 ≡ ruleRoom m
 unfolding roomsOf
-rule-room-read m = sym (word-part 8 4 2 m (lit< tt))
+rule-room-read m = sym (word-part 8 ROOMS-BYTES 2 m (lit< tt))
 
 -- the rules of a memory are as many as its count says, and the set slots as many as its room
 pub rule-count-is : (m : List ℕ) → ruleCount m ≡ length (planOf m .rules)
@@ -53,17 +54,17 @@ rule-count-is m = sym (length-rules (ruleCount m) (rulesFrom m))
 
 pub set-room-is : (m : List ℕ) → setRoom m ≡ length (planOf m .slots)
 unfolding planOf slotsOf
-set-room-is m = sym (length-map (slots 48 (setRoom m) (drop 64 m)) slotOf ∙ length-slots 48 (setRoom m) (drop 64 m))
+set-room-is m = sym (length-map (slots SET-WIDTH (setRoom m) (drop SETS-AT m)) slotOf ∙ length-slots SET-WIDTH (setRoom m) (drop SETS-AT m))
 
 -- the numbers of a sound memory
 pub record Numbers (m : List ℕ) : Type 0 where
-  pub header : 64 ≤ length m
+  pub header : HEADER-BYTES ≤ length m
   pub sets-least : 1 ≤ setRoom m
   pub sets-most : setRoom m ≤ 1024
   pub rules-least : 1 ≤ ruleRoom m
   pub rules-most : ruleRoom m ≤ 4096
   pub count-most : ruleCount m ≤ ruleRoom m
-  pub size : 64 + 48 * setRoom m + 24 * ruleRoom m ≤ length m
+  pub size : SETS-AT + SET-WIDTH * setRoom m + RULE-WIDTH * ruleRoom m ≤ length m
 
 in-range : (lo hi n : ℕ) → T (within lo hi n) → (lo ≤ n) × (n ≤ hi)
 in-range lo hi n t = (leb→le lo n (and-left (leb lo n) (leb n hi) t), leb→le n hi (and-right (leb lo n) (leb n hi) t))
@@ -84,7 +85,7 @@ numbers m e =
     let s = sound-is m e in
     let range = rooms-range (planOf m .rooms) (s .plan .rooms-range) in
     record {
-      header = s .header;
+      header = omega (arith, s .header);
       sets-least = range .0 .0;
       sets-most = range .0 .1;
       rules-least = range .1 .0;
@@ -95,28 +96,28 @@ numbers m e =
 
 -- THE AREAS
 
-code-prefix : (slot : List ℕ) → length slot ≡ 24 → T (codePasses (ruleOf slot .code)) → T (prefixFits slot)
+code-prefix : (slot : List ℕ) → length slot ≡ RULE-WIDTH → T (codePasses (ruleOf slot .code)) → T (prefixFits slot)
 unfolding codePasses ruleOf
 code-prefix slot l t =
-    le→leb (getD slot 1 0) 16 (range-bytes slot (omega arith) (and-right (sized 19 (take 19 slot)) (filterInRange (take 19 slot)) t) .prefix)
+    le→leb (getD slot PREFIX-AT 0) 16 (range-bytes slot (omega arith) (and-right (sized FILTER-BYTES (take FILTER-BYTES slot)) (filterInRange (take FILTER-BYTES slot)) t) .prefix)
 
-codes-prefixes : (ss : List (List ℕ)) → Wide 24 ss → T (codesPass (map ruleOf ss)) → T (all prefixFits ss)
+codes-prefixes : (ss : List (List ℕ)) → Wide RULE-WIDTH ss → T (codesPass (map ruleOf ss)) → T (all prefixFits ss)
 unfolding codesPass
 codes-prefixes [] w t = tt
 codes-prefixes (s ∷ ss) w t =
     and-both (prefixFits s) (all prefixFits ss) (code-prefix s (w .0) (and-left (codePasses (ruleOf s .code)) _ t))
     (codes-prefixes ss (w .1) (and-right (codePasses (ruleOf s .code)) _ t))
 
-pub rules-part-is : (m : List ℕ) → soundOf m ≡ true → RulesPart m (part (64 + 48 * setRoom m) (24 * ruleRoom m) m)
+pub rules-part-is : (m : List ℕ) → soundOf m ≡ true → RulesPart m (part (SETS-AT + SET-WIDTH * setRoom m) (RULE-WIDTH * ruleRoom m) m)
 unfolding planOf rulesOf
 rules-part-is m e =
     let n = numbers m e in
-    let area : List ℕ = part (64 + 48 * setRoom m) (24 * ruleRoom m) m in
-    let long : length area ≡ 24 * ruleRoom m =
-    length-take-le (24 * ruleRoom m) (rulesFrom m) (rw (length-drop (64 + 48 * setRoom m) m) (omega (arith, n .size))) in
-    let room : 24 * ruleCount m ≤ 24 * ruleRoom m = omega (arith, n .count-most) in
-    let same : rulesOf (ruleCount m) area ≡ planOf m .rules = rules-part (ruleCount m) (24 * ruleRoom m) (rulesFrom m) room in
-    let fits : 24 * ruleCount m ≤ length area = rw long room in
+    let area : List ℕ = part (SETS-AT + SET-WIDTH * setRoom m) (RULE-WIDTH * ruleRoom m) m in
+    let long : length area ≡ RULE-WIDTH * ruleRoom m =
+    length-take-le (RULE-WIDTH * ruleRoom m) (rulesFrom m) (rw (length-drop (SETS-AT + SET-WIDTH * setRoom m) m) (omega (arith, n .size))) in
+    let room : RULE-WIDTH * ruleCount m ≤ RULE-WIDTH * ruleRoom m = omega (arith, n .count-most) in
+    let same : rulesOf (ruleCount m) area ≡ planOf m .rules = rules-part (ruleCount m) (RULE-WIDTH * ruleRoom m) (rulesFrom m) room in
+    let fits : RULE-WIDTH * ruleCount m ≤ length area = rw long room in
     let codes : T (codesPass (rulesOf (ruleCount m) area)) = rw same (sound-is m e .plan .codes) in
     record {
       bytes = refl;
@@ -124,40 +125,40 @@ rules-part-is m e =
       area = record {
         few = omega (arith, n .count-most, n .rules-most);
         room = fits;
-        prefixes = codes-prefixes (slots 24 (ruleCount m) area) (wide-slots 24 (ruleCount m) area fits) codes;
+        prefixes = codes-prefixes (slots RULE-WIDTH (ruleCount m) area) (wide-slots RULE-WIDTH (ruleCount m) area fits) codes;
       };
     }
 
-pub sets-part-is : (m : List ℕ) → soundOf m ≡ true → SetsPart m (part 64 (48 * setRoom m) m)
+pub sets-part-is : (m : List ℕ) → soundOf m ≡ true → SetsPart m (part SETS-AT (SET-WIDTH * setRoom m) m)
 unfolding planOf slotsOf
 sets-part-is m e =
     let n = numbers m e in
     record {
       bytes = refl;
-      slots = ap (map slotOf) (slots-part 48 (setRoom m) (48 * setRoom m) (drop 64 m) (omega arith));
-      size = length-take-le (48 * setRoom m) (drop 64 m) (rw (length-drop 64 m) (omega (arith, n .size)));
+      slots = ap (map slotOf) (slots-part SET-WIDTH (setRoom m) (SET-WIDTH * setRoom m) (drop SETS-AT m) (omega arith));
+      size = length-take-le (SET-WIDTH * setRoom m) (drop SETS-AT m) (rw (length-drop SETS-AT m) (omega (arith, n .size)));
     }
 
 -- the areas as they are lent, from a to an end behind it
-pub rules-lent : (m : List ℕ) (a k : ℕ) → soundOf m ≡ true → a ≡ 64 + 48 * setRoom m → k ≡ ruleRoom m → RulesPart m (take (a + 24 * k - a) (drop a m))
+pub rules-lent : (m : List ℕ) (a k : ℕ) → soundOf m ≡ true → a ≡ SETS-AT + SET-WIDTH * setRoom m → k ≡ ruleRoom m → RulesPart m (take (a + RULE-WIDTH * k - a) (drop a m))
 rules-lent m a k e a-is k-is =
-    let n : a + 24 * k - a ≡ 24 * ruleRoom m = omega arith in
+    let n : a + RULE-WIDTH * k - a ≡ RULE-WIDTH * ruleRoom m = omega arith in
     rw (n, a-is) (rules-part-is m e)
 
-pub sets-lent : (m : List ℕ) (b : ℕ) → soundOf m ≡ true → b ≡ 64 + 48 * setRoom m → SetsPart m (take (b - 64) (drop 64 m))
+pub sets-lent : (m : List ℕ) (b : ℕ) → soundOf m ≡ true → b ≡ SETS-AT + SET-WIDTH * setRoom m → SetsPart m (take (b - SETS-AT) (drop SETS-AT m))
 sets-lent m b e b-is =
-    let n : b - 64 ≡ 48 * setRoom m = omega arith in
+    let n : b - SETS-AT ≡ SET-WIDTH * setRoom m = omega arith in
     rw n (sets-part-is m e)
 
 -- ONE SET
 
 -- the slot of a set number under the room
-pub held-slot : (m : List ℕ) (n : ℕ) → n < setRoom m → held (planOf m) n ≡ slotOf (part (64 + 48 * n) 48 m)
+pub held-slot : (m : List ℕ) (n : ℕ) → n < setRoom m → held (planOf m) n ≡ slotOf (part (SETS-AT + SET-WIDTH * n) SET-WIDTH m)
 unfolding planOf slotsOf slotOf
 held-slot m n h =
-    let at : getD (slots 48 (setRoom m) (drop 64 m)) n [] ≡ part (64 + 48 * n) 48 m =
-    slot-at 48 n (setRoom m) (drop 64 m) h ∙ ap (take 48) (drop-drop (48 * n) 64 m) in
-    List·getD-map slotOf (slots 48 (setRoom m) (drop 64 m)) n [] ∙ ap slotOf at
+    let at : getD (slots SET-WIDTH (setRoom m) (drop SETS-AT m)) n [] ≡ part (SETS-AT + SET-WIDTH * n) SET-WIDTH m =
+    slot-at SET-WIDTH n (setRoom m) (drop SETS-AT m) h ∙ ap (take SET-WIDTH) (drop-drop (SET-WIDTH * n) SETS-AT m) in
+    List·getD-map slotOf (slots SET-WIDTH (setRoom m) (drop SETS-AT m)) n [] ∙ ap slotOf at
 
 pub held-over : (m : List ℕ) (n : ℕ) → setRoom m ≤ n → held (planOf m) n ≡ none
 held-over m n h = List·getD-eq-default (planOf m .slots) none (rw (← set-room-is m) h)
@@ -177,48 +178,48 @@ some-slot : (s : List ℕ) → isSome (slotOf s) ≡ not (isZero (getD s 0 0))
 unfolding slotOf
 some-slot s = go (isZero (getD s 0 0))
   where
-    go : (b : Bool) → isSome (if b then none else some (part 1 45 s)) ≡ not b
+    go : (b : Bool) → isSome (if b then none else some (part CONTENT-AT CONTENT-BYTES s)) ≡ not b
     go true = refl
     go false = refl
 
-pub held-byte : (m : List ℕ) (n : ℕ) → n < setRoom m → isSome (held (planOf m) n) ≡ not (isZero (getD m (64 + 48 * n) 0))
+pub held-byte : (m : List ℕ) (n : ℕ) → n < setRoom m → isSome (held (planOf m) n) ≡ not (isZero (getD m (SETS-AT + SET-WIDTH * n) 0))
 held-byte m n h =
-    let first : _≡_ {A = ℕ} (getD (part (64 + 48 * n) 48 m) 0 0) (getD m (64 + 48 * n + 0) 0) =
-    getD-take 48 (drop (64 + 48 * n) m) 0 0 (lit< tt) ∙ getD-drop (64 + 48 * n) m 0 0 in
-    let here : 64 + 48 * n + 0 ≡ 64 + 48 * n = omega arith in
-    ap isSome (held-slot m n h) ∙ (some-slot (part (64 + 48 * n) 48 m) ∙ rw (first, here))
+    let first : _≡_ {A = ℕ} (getD (part (SETS-AT + SET-WIDTH * n) SET-WIDTH m) 0 0) (getD m (SETS-AT + SET-WIDTH * n + 0) 0) =
+    getD-take SET-WIDTH (drop (SETS-AT + SET-WIDTH * n) m) 0 0 (lit< tt) ∙ getD-drop (SETS-AT + SET-WIDTH * n) m 0 0 in
+    let here : SETS-AT + SET-WIDTH * n + 0 ≡ SETS-AT + SET-WIDTH * n = omega arith in
+    ap isSome (held-slot m n h) ∙ (some-slot (part (SETS-AT + SET-WIDTH * n) SET-WIDTH m) ∙ rw (first, here))
 
 -- the content of a slot that is held
-some-content : (s : List ℕ) → isSome (slotOf s) ≡ true → slotOf s ≡ some (part 1 45 s)
+some-content : (s : List ℕ) → isSome (slotOf s) ≡ true → slotOf s ≡ some (part CONTENT-AT CONTENT-BYTES s)
 unfolding slotOf
 some-content s e = go (isZero (getD s 0 0)) e
   where
-    go : (b : Bool) → isSome (if b then none else some (part 1 45 s)) ≡ true → (if b then none else some (part 1 45 s)) ≡ some (part 1 45 s)
+    go : (b : Bool) → isSome (if b then none else some (part CONTENT-AT CONTENT-BYTES s)) ≡ true → (if b then none else some (part CONTENT-AT CONTENT-BYTES s)) ≡ some (part CONTENT-AT CONTENT-BYTES s)
     go true q = absurd (let z : _≡_ {A = ℕ} 0 1 = cc in omega arith)
     go false q = refl
 
-pub content-is : (m : List ℕ) (n : ℕ) → soundOf m ≡ true → isSome (held (planOf m) n) ≡ true → Content (planOf m) n (part (64 + 48 * n + 1) 45 m)
+pub content-is : (m : List ℕ) (n : ℕ) → soundOf m ≡ true → isSome (held (planOf m) n) ≡ true → Content (planOf m) n (part (SETS-AT + SET-WIDTH * n + CONTENT-AT) CONTENT-BYTES m)
 content-is m n e h =
     let below : n < setRoom m = held-below m n h in
-    let slot : List ℕ = part (64 + 48 * n) 48 m in
+    let slot : List ℕ = part (SETS-AT + SET-WIDTH * n) SET-WIDTH m in
     let some-slot : isSome (slotOf slot) ≡ true = ap isSome (sym (held-slot m n below)) ∙ h in
-    let inner : part 1 45 slot ≡ part (64 + 48 * n + 1) 45 m =
-    part-part 1 45 48 (drop (64 + 48 * n) m) (lit≤ tt) ∙ ap (take 45) (drop-drop 1 (64 + 48 * n) m) in
-    let size : 64 + 48 * n + 1 + 45 ≤ length m = omega (arith, numbers m e) in
+    let inner : part CONTENT-AT CONTENT-BYTES slot ≡ part (SETS-AT + SET-WIDTH * n + CONTENT-AT) CONTENT-BYTES m =
+    part-part CONTENT-AT CONTENT-BYTES SET-WIDTH (drop (SETS-AT + SET-WIDTH * n) m) (lit≤ tt) ∙ ap (take CONTENT-BYTES) (drop-drop CONTENT-AT (SETS-AT + SET-WIDTH * n) m) in
+    let size : SETS-AT + SET-WIDTH * n + CONTENT-AT + CONTENT-BYTES ≤ length m = omega (arith, numbers m e) in
     record {
       is = held-slot m n below ∙ (some-content slot some-slot ∙ ap some inner);
-      size = length-take-le 45 (drop (64 + 48 * n + 1) m) (rw (length-drop (64 + 48 * n + 1) m) (omega arith));
+      size = length-take-le CONTENT-BYTES (drop (SETS-AT + SET-WIDTH * n + CONTENT-AT) m) (rw (length-drop (SETS-AT + SET-WIDTH * n + CONTENT-AT) m) (omega arith));
     }
 
-pub content-lent : (m : List ℕ) (n a : ℕ) → a ≡ 64 + 48 * n → soundOf m ≡ true → isSome (held (planOf m) n) ≡ true
-    → Content (planOf m) n (take (a + 46 - (a + 1)) (drop (a + 1) m))
+pub content-lent : (m : List ℕ) (n a : ℕ) → a ≡ SETS-AT + SET-WIDTH * n → soundOf m ≡ true → isSome (held (planOf m) n) ≡ true
+    → Content (planOf m) n (take (a + COUNT-AT - (a + CONTENT-AT)) (drop (a + CONTENT-AT) m))
 content-lent m n a a-is e h =
-    let k : a + 46 - (a + 1) ≡ 45 = omega arith in
+    let k : a + COUNT-AT - (a + CONTENT-AT) ≡ CONTENT-BYTES = omega arith in
     rw (k, a-is) (content-is m n e h)
 
 -- ONE RULE
 
-pub rule-there : (n k : ℕ) (area : List ℕ) → k < n → getD (rulesOf n area) k noRule ≡ ruleOf (take 24 (drop (24 * k) area))
+pub rule-there : (n k : ℕ) (area : List ℕ) → k < n → getD (rulesOf n area) k noRule ≡ ruleOf (take RULE-WIDTH (drop (RULE-WIDTH * k) area))
 rule-there n k area h =
     let a = rule-at n k area h in
     let b = element-at (rulesOf n area) k noRule (rw (length-rules n area) h) in
@@ -233,7 +234,7 @@ pub counting-none : (set : ℕ) (area : List ℕ) (n : ℕ) → Counting set are
 counting-none set area n = let e = ap (count (names set)) (rules-full n area) in omega (arith, e)
 
 module _ (set : ℕ) (area : List ℕ) (n i so-far : ℕ) (h : Counting set area n i so-far) where
-  module _ (named : ℕ) (inside : i < n) (named-is : named ≡ ruleOf (take 24 (drop (24 * i) area)) .set) where
+  module _ (named : ℕ) (inside : i < n) (named-is : named ≡ ruleOf (take RULE-WIDTH (drop (RULE-WIDTH * i) area)) .set) where
     counting-step : so-far + ((if eqb named set then 1 else 0) + count (names set) (rulesLeft n (i + 1) area)) ≡ count (names set) (rulesOf n area)
     counting-step = rw (named-is) (rw (rules-more n i area inside) at h)
 

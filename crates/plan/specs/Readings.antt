@@ -4,6 +4,7 @@ use mathlib.Core.Path.{_≡_}
 use mathlib.Core.List.{List}
 use mathlib.Core.Option.{some}
 use lib.ListN.{length}
+use Rattle.meaning.specs.Sizes.{CONTENT-BYTES, SETS-AT, SET-WIDTH, RULE-WIDTH}
 use Rattle.meaning.specs.Basics.{part}
 use Rattle.meaning.specs.Plan.{Plan, held}
 use Rattle.filter.specs.Slots.{rulesOf, RuleArea}
@@ -16,25 +17,25 @@ pub record Number (n r : ℕ) : Type 0 where
 
 -- r is where the rule slots of m begin; all of them stand in m, those that are held first
 pub record RulesStart (m : List ℕ) (r : ℕ) : Type 0 where
-  pub is : r ≡ 64 + 48 * setRoom m
+  pub is : r ≡ SETS-AT + SET-WIDTH * setRoom m
   pub sets : setRoom m ≤ 1024
   pub rules : ruleRoom m ≤ 4096
   pub held : ruleCount m ≤ ruleRoom m
-  pub room : r + 24 * ruleRoom m ≤ length m
+  pub room : r + RULE-WIDTH * ruleRoom m ≤ length m
 
 -- r is the part of m with its rule slots
 pub record RulesPart (m r : List ℕ) : Type 0 where
-  pub bytes : r ≡ part (64 + 48 * setRoom m) (24 * ruleRoom m) m
+  pub bytes : r ≡ part (SETS-AT + SET-WIDTH * setRoom m) (RULE-WIDTH * ruleRoom m) m
   pub rules : rulesOf (ruleCount m) r ≡ planOf m .rules
   pub area : RuleArea (ruleCount m) r
 
 -- r is the part of m with its set slots
 pub record SetsPart (m r : List ℕ) : Type 0 where
-  pub bytes : r ≡ part 64 (48 * setRoom m) m
+  pub bytes : r ≡ part SETS-AT (SET-WIDTH * setRoom m) m
   pub slots : slotsOf (setRoom m) r ≡ planOf m .slots
-  pub size : length r ≡ 48 * setRoom m
+  pub size : length r ≡ SET-WIDTH * setRoom m
 
 -- r is the content of set n
 pub record Content (p : Plan) (n : ℕ) (r : List ℕ) : Type 0 where
   pub is : held p n ≡ some r
-  pub size : length r ≡ 45
+  pub size : length r ≡ CONTENT-BYTES

@@ -5,6 +5,7 @@ use mathlib.Core.List.{List, [], _∷_, _++_}
 use mathlib.Core.Option.{Option, none, some}
 use lib.ListN.{length, take, drop}
 use lib.Dec.{leb, eqb}
+use Rattle.meaning.specs.Sizes.{SETS-AT}
 use Rattle.meaning.specs.Basics.{if_then_else_, allOf}
 use Rattle.meaning.specs.Plan.{Plan, sound}
 use Rattle.plan.specs.Layout.{image, sizeOf, planOf}
@@ -16,9 +17,9 @@ sameBytes [] (y ∷ ys) = false
 sameBytes (x ∷ xs) [] = false
 sameBytes (x ∷ xs) (y ∷ ys) = eqb x y && sameBytes xs ys
 
--- it has a header and the size that its rooms need, the plan that it holds is sound, and its bytes are that plan's image
+-- it has all that stands before the sets and the size that its rooms need, the plan that it holds is sound, and its bytes are that plan's image
 abbrev pub soundTests : List ℕ → List Bool
-soundTests m = leb 64 (length m) ∷ leb (sizeOf m) (length m) ∷ sound (planOf m) ∷ sameBytes (take (sizeOf m) m) (image (planOf m)) ∷ []
+soundTests m = leb SETS-AT (length m) ∷ leb (sizeOf m) (length m) ∷ sound (planOf m) ∷ sameBytes (take (sizeOf m) m) (image (planOf m)) ∷ []
 
 unfoldable pub soundOf : List ℕ → Bool
 soundOf m = allOf (soundTests m)

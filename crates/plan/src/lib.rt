@@ -5,6 +5,7 @@ ghost use mathlib.Core.List.{_++_};
 ghost use mathlib.Core.Option.{none, some};
 ghost use Prim.Native.Nat.{_+_, _*_, _≤_, _<_};
 ghost use lib.ListN.{length, drop, getD};
+ghost use Rattle.meaning.specs.Sizes.{ROOMS-BYTES, SETTINGS-BYTES, CONTENT-BYTES, FILTER-BYTES, HEADER-BYTES, SETS-AT, SET-WIDTH, RULE-WIDTH};
 ghost use Rattle.meaning.specs.Basics.{isSome, count};
 ghost use Rattle.meaning.specs.Settings.{roomsOf, bytesNeeded};
 ghost use Rattle.meaning.specs.Rules.{names};
@@ -19,45 +20,37 @@ ghost use Rattle.plan.specs.Readings.{Number, RulesStart, RulesPart, Set
 ghost use Rattle.plan.specs.Edits.{ruleWith, renamedAt};
 use meaning::RulePlace;
 use meaning::SetNumber;
+use meaning::sizes::CONTENT_AT;
+use meaning::sizes::COUNT_AT;
+use meaning::sizes::ROOMS_AT;
+use meaning::sizes::ROOMS_END;
+use meaning::sizes::RULE_WIDTH;
+use meaning::sizes::RULES_AT;
+use meaning::sizes::SET_AT;
+use meaning::sizes::SET_WIDTH;
+use meaning::sizes::SETS_AT;
+use meaning::sizes::SETTINGS_AT;
+use meaning::sizes::SETTINGS_END;
 
-// Widths: the header, a set slot, a rule slot.
-pub const HEADER_BYTES: usize = 64;
+// The mark of this build, `NPP1`.
+pub const MARK: [u8; 4] = [78, 80, 80, 49];
 
-pub const SET_BYTES: usize = 48;
-
-pub const RULE_BYTES: usize = 24;
-
-// Places in the header.
-const COUNT_AT: usize = 4;
-
-const SET_ROOM_AT: usize = 8;
-
-const RULE_ROOM_AT: usize = 10;
-
-const SETTINGS_AT: usize = 12;
-
-const SETTINGS_END: usize = 48;
-
-// Places in a set slot and in a rule slot.
-const CONTENT_AT: usize = 1;
-
-const CONTENT_END: usize = 46;
-
-const SET_AT: usize = 19;
+// The place of the second of the two rooms.
+const RULE_ROOM_AT: usize = ROOMS_AT + 2;
 
 // READERS
 
 // The room for sets.
 pub fn set_room(memory: &[u8]) -> usize
-    requires { ⌜ 64 ≤ length (now memory) ⌝ }
+    requires { ⌜ HEADER-BYTES ≤ length (now memory) ⌝ }
     ensures { λ r. ⌜ Number (setRoom (now (memory .entry))) r ⌝ }
 {
-    buffer::word(memory, SET_ROOM_AT)
+    buffer::word(memory, ROOMS_AT)
 }
 
 // The room for rules.
 pub fn rule_room(memory: &[u8]) -> usize
-    requires { ⌜ 64 ≤ length (now memory) ⌝ }
+    requires { ⌜ HEADER-BYTES ≤ length (now memory) ⌝ }
     ensures { λ r. ⌜ Number (ruleRoom (now (memory .entry))) r ⌝ }
 {
     buffer::word(memory, RULE_ROOM_AT)
@@ -65,15 +58,15 @@ pub fn rule_room(memory: &[u8]) -> usize
 
 // The count of rules held.
 pub fn rule_count(memory: &[u8]) -> usize
-    requires { ⌜ 64 ≤ length (now memory) ⌝ }
+    requires { ⌜ HEADER-BYTES ≤ length (now memory) ⌝ }
     ensures { λ r. ⌜ Number (ruleCount (now (memory .entry))) r ⌝ }
 {
-    buffer::word(memory, COUNT_AT)
+    buffer::word(memory, RULES_AT)
 }
 
 // The settings of the opening.
 pub fn settings(memory: &[u8]) -> &[u8]
-    requires { ⌜ 64 ≤ length (now memory) ⌝ }
+    requires { ⌜ HEADER-BYTES ≤ length (now memory) ⌝ }
     ensures { λ r. ⌜ now r ≡ planOf (now (memory .entry)) .settings ⌝ }
 {
     &memory[SETTINGS_AT..SETTINGS_END]
@@ -84,7 +77,7 @@ fn rules_start(memory: &[u8]) -> usize
     requires { ⌜ soundOf (now memory) ≡ true ⌝ }
     ensures { λ r. ⌜ RulesStart (now (memory .entry)) r ⌝ }
 {
-    HEADER_BYTES + SET_BYTES * set_room(memory)
+    SETS_AT + SET_WIDTH * set_room(memory)
 }
 
 // The rule slots, free ones too.
@@ -93,7 +86,7 @@ pub fn rules<'a>(memory: &'a [u8]) -> &'a [u8]
     ensures { λ r. ⌜ RulesPart (now (memory .entry)) (now r) ⌝ }
 {
     let a = rules_start(memory);
-    let e = a + RULE_BYTES * rule_room(memory);
+    let e = a + RULE_WIDTH * rule_room(memory);
     &memory[a..e]
 }
 
@@ -103,14 +96,14 @@ pub fn sets<'a>(memory: &'a [u8]) -> &'a [u8]
     ensures { λ r. ⌜ SetsPart (now (memory .entry)) (now r) ⌝ }
 {
     let e = rules_start(memory);
-    &memory[HEADER_BYTES..e]
+    &memory[SETS_AT..e]
 }
 
 // Where the slot of a set number begins.
 fn set_start(set: SetNumber) -> usize
-    ensures { λ r. ⌜ r ≡ 64 + 48 * set .0 ⌝ }
+    ensures { λ r. ⌜ r ≡ SETS-AT + SET-WIDTH * set .0 ⌝ }
 {
-    HEADER_BYTES + SET_BYTES * (set.0 as usize)
+    SETS_AT + SET_WIDTH * (set.0 as usize)
 }
 
 // Whether a set is held; a number over the room for sets never is.
@@ -132,7 +125,7 @@ pub fn content<'a>(memory: &'a [u8], set: SetNumber) -> &'a [u8]
 {
     let slot = set_start(set);
     let a = slot + CONTENT_AT;
-    let e = slot + CONTENT_END;
+    let e = slot + COUNT_AT;
     &memory[a..e]
 }
 
@@ -174,28 +167,28 @@ pub fn referrers(memory: &[u8], set: SetNumber) -> usize
 
 // The header of a fresh plan.
 fn write_header(header: &mut [u8], rooms: &[u8], settings: &[u8])
-    requires { ⌜ (length (now header) ≡ 64) × (length (now rooms) ≡ 4) × (length (now settings) ≡ 36) ⌝ }
+    requires { ⌜ (length (now header) ≡ SETS-AT) × (length (now rooms) ≡ ROOMS-BYTES) × (length (now settings) ≡ SETTINGS-BYTES) ⌝ }
     ensures { λ _. ⌜ now (header .exit) ≡ headerImage (fresh (now (rooms .entry)) (now (settings .entry))) ⌝ }
 {
     buffer::clear(header);
-    buffer::copy(header, b"NPP1");
-    buffer::copy(&mut header[SET_ROOM_AT..SETTINGS_AT], rooms);
+    buffer::copy(header, &MARK);
+    buffer::copy(&mut header[ROOMS_AT..ROOMS_END], rooms);
     buffer::copy(&mut header[SETTINGS_AT..SETTINGS_END], settings);
 }
 
 // The slot of a set that is held.
 fn write_set(slot: &mut [u8], content: &[u8])
-    requires { ⌜ (length (now slot) ≡ 48) × (length (now content) ≡ 45) ⌝ }
+    requires { ⌜ (length (now slot) ≡ SET-WIDTH) × (length (now content) ≡ CONTENT-BYTES) ⌝ }
     ensures { λ _. ⌜ now (slot .exit) ≡ slotImage 0 (some (now (content .entry))) ⌝ }
 {
     buffer::clear(slot);
-    buffer::copy(&mut slot[CONTENT_AT..CONTENT_END], content);
+    buffer::copy(&mut slot[CONTENT_AT..COUNT_AT], content);
     slot[0] = 1;
 }
 
 // The slot of a rule.
 fn write_rule(slot: &mut [u8], code: &[u8], set: SetNumber)
-    requires { ⌜ (length (now slot) ≡ 24) × (length (now code) ≡ 19) ⌝ }
+    requires { ⌜ (length (now slot) ≡ RULE-WIDTH) × (length (now code) ≡ FILTER-BYTES) ⌝ }
     ensures { λ _. ⌜ now (slot .exit) ≡ ruleImage (ruleWith (now (code .entry)) (set .0)) ⌝ }
 {
     buffer::clear(slot);
@@ -205,23 +198,21 @@ fn write_rule(slot: &mut [u8], code: &[u8], set: SetNumber)
 
 // A fresh plan over the front of a memory; the bytes behind it stay.
 pub fn start(memory: &mut [u8], rooms: &[u8], settings: &[u8])
-    requires { ⌜ (length (now rooms) ≡ 4) × (length (now settings) ≡ 36) × (bytesNeeded (roomsOf (now rooms)) ≤ length (now memory)) ⌝ }
+    requires { ⌜ (length (now rooms) ≡ ROOMS-BYTES) × (length (now settings) ≡ SETTINGS-BYTES) × (bytesNeeded (roomsOf (now rooms)) ≤ length (now memory)) ⌝ }
     ensures { λ _. ⌜ now (memory .exit) ≡ image (fresh (now (rooms .entry)) (now (settings .entry))) ++ drop (bytesNeeded (roomsOf (now (rooms .entry)))) (now (memory .entry)) ⌝ }
 {
-    let size = HEADER_BYTES
-        + SET_BYTES * buffer::word(rooms, 0)
-        + RULE_BYTES * buffer::word(rooms, 2);
-    buffer::clear(&mut memory[HEADER_BYTES..size]);
-    write_header(&mut memory[0..HEADER_BYTES], rooms, settings);
+    let size = SETS_AT + SET_WIDTH * buffer::word(rooms, 0) + RULE_WIDTH * buffer::word(rooms, 2);
+    buffer::clear(&mut memory[SETS_AT..size]);
+    write_header(&mut memory[0..SETS_AT], rooms, settings);
 }
 
 // A set's content added or replaced.
 pub fn store_set(memory: &mut [u8], set: SetNumber, content: &[u8])
-    requires { ⌜ (soundOf (now memory) ≡ true) × (set .0 < setRoom (now memory)) × (length (now content) ≡ 45) ⌝ }
+    requires { ⌜ (soundOf (now memory) ≡ true) × (set .0 < setRoom (now memory)) × (length (now content) ≡ CONTENT-BYTES) ⌝ }
     ensures { λ _. ⌜ now (memory .exit) ≡ image (withSlot (set .0) (some (now (content .entry))) (planOf (now (memory .entry)))) ++ restOf (now (memory .entry)) ⌝ }
 {
     let a = set_start(set);
-    let e = a + SET_BYTES;
+    let e = a + SET_WIDTH;
     write_set(&mut memory[a..e], content);
 }
 
@@ -231,22 +222,22 @@ pub fn clear_set(memory: &mut [u8], set: SetNumber)
     ensures { λ _. ⌜ now (memory .exit) ≡ image (withSlot (set .0) none (planOf (now (memory .entry)))) ++ restOf (now (memory .entry)) ⌝ }
 {
     let a = set_start(set);
-    let e = a + SET_BYTES;
+    let e = a + SET_WIDTH;
     buffer::clear(&mut memory[a..e]);
 }
 
 // A rule put in before the one at a place.
 pub fn insert_rule(memory: &mut [u8], place: RulePlace, code: &[u8], set: SetNumber)
-    requires { ⌜ (soundOf (now memory) ≡ true) × (place .0 ≤ ruleCount (now memory)) × (ruleCount (now memory) < ruleRoom (now memory)) × (length (now code) ≡ 19) ⌝ }
+    requires { ⌜ (soundOf (now memory) ≡ true) × (place .0 ≤ ruleCount (now memory)) × (ruleCount (now memory) < ruleRoom (now memory)) × (length (now code) ≡ FILTER-BYTES) ⌝ }
     ensures { λ _. ⌜ now (memory .exit) ≡ image (withRules (insertAt (place .0) (ruleWith (now (code .entry)) (set .0)) (planOf (now (memory .entry)) .rules)) (planOf (now (memory .entry)))) ++ restOf (now (memory .entry)) ⌝ }
 {
-    let mut slot = [0u8; RULE_BYTES];
+    let mut slot = [0u8; RULE_WIDTH];
     write_rule(&mut slot, code, set);
     let a = rules_start(memory);
     let n = rule_count(memory);
     let k = place.0 as usize;
-    buffer::insert_slot(&mut memory[a..], RULE_BYTES, n, k, &slot);
-    buffer::put_word(memory, COUNT_AT, n + 1);
+    buffer::insert_slot(&mut memory[a..], RULE_WIDTH, n, k, &slot);
+    buffer::put_word(memory, RULES_AT, n + 1);
 }
 
 // The rule at a place taken out.
@@ -257,8 +248,8 @@ pub fn remove_rule(memory: &mut [u8], place: RulePlace)
     let a = rules_start(memory);
     let n = rule_count(memory);
     let k = place.0 as usize;
-    buffer::remove_slot(&mut memory[a..], RULE_BYTES, n, k);
-    buffer::put_word(memory, COUNT_AT, n - 1);
+    buffer::remove_slot(&mut memory[a..], RULE_WIDTH, n, k);
+    buffer::put_word(memory, RULES_AT, n - 1);
 }
 
 // Another set named by the rule at a place.
@@ -267,7 +258,7 @@ pub fn rename_rule(memory: &mut [u8], place: RulePlace, set: SetNumber)
     ensures { λ _. ⌜ now (memory .exit) ≡ image (withRules (renamedAt (place .0) (set .0) (planOf (now (memory .entry)) .rules)) (planOf (now (memory .entry)))) ++ restOf (now (memory .entry)) ⌝ }
 {
     let k = place.0 as usize;
-    let a = rules_start(memory) + RULE_BYTES * k;
-    let e = a + RULE_BYTES;
+    let a = rules_start(memory) + RULE_WIDTH * k;
+    let e = a + RULE_WIDTH;
     buffer::put_word(&mut memory[a..e], SET_AT, set.0 as usize);
 }

@@ -11,11 +11,10 @@ use borrow.Rule.Slice.PartMut.{midOf, putMid, postOf, post-is}
 use Rattle.meaning.specs.Basics.{writtenOver}
 use Rattle.blocks.proofs.PlaceLaws.{rest-is}
 use Rattle.blocks.proofs.OverLaws.{length-over}
-use Rattle.plan.specs.State.{stateOf}
 use Rattle.run.specs.Runs.{InRun}
 use Rattle.record.specs.Turns.{turn}
 use Rattle.record.specs.Cuts.{Cut}
-use Rattle.record.specs.Promises.{writtenBy, textOf, StepPromise, Runs, next, last, RunEnd, runEndHere, runEndBehind}
+use Rattle.record.specs.Promises.{houseOf, writtenBy, textOf, StepPromise, Runs, next, last, RunEnd, runEndHere, runEndBehind}
 use Rattle.record.specs.declared.Run.{Run}
 use Rattle.record.specs.declared.Line.{Line}
 use Rattle.record.specs.declared.Last.{Last}
@@ -104,7 +103,7 @@ module _ {m : List ℕ} {run : Run} {ended : Bool} {input out now : List ℕ} {s
     step = rw (← rest-is at input, ← rest-is end left) p
 
     abbrev said : List ℕ
-    said = textOf (turn (stateOf now) (so .lines) ended (drop at input) (length (drop end left)))
+    said = textOf (turn (houseOf now) (so .lines) ended (drop at input) (length (drop end left)))
 
     fits : length said ≤ length (drop end left)
     fits = rw (← step .count-is) (step .inside)
@@ -187,7 +186,7 @@ module _ {m : List ℕ} {run : Run} {ended : Bool} {input out now : List ℕ} {s
         inside = g .inside;
         room = g .room;
         in-run = g .in-run;
-        stops-wanting = λ o f. ap (turn (stateOf now) (so .lines) ended (drop at input)) room-left ∙ sym (p .turn-is);
+        stops-wanting = λ o f. ap (turn (houseOf now) (so .lines) ended (drop at input)) room-left ∙ sym (p .turn-is);
         stops-full = λ f. absurd (false≢true f);
       })
 
@@ -210,7 +209,7 @@ module _ {m : List ℕ} {run : Run} {ended : Bool} {input out now : List ℕ} {s
         room = g .room;
         in-run = g .in-run;
         stops-wanting = λ o f. absurd (true≢false f);
-        stops-full = λ f. ap (turn (stateOf now) (so .lines) ended (drop at input)) room-left ∙ sym (p .turn-is);
+        stops-full = λ f. ap (turn (houseOf now) (so .lines) ended (drop at input)) room-left ∙ sym (p .turn-is);
       })
 
   -- reading has ended, with the last line

@@ -4,23 +4,22 @@ use mathlib.Core.Path.{_≡_, refl, ap, ap₂, sym, _∙_}
 use mathlib.Core.Logic.{_⊎_, inl, inr}
 use mathlib.Core.Bool.{true}
 use mathlib.Core.List.{List, [], _∷_, _++_, append-nil}
-use mathlib.Core.Option.{Option}
 use native.Mathlib.Nat.{not-suc-le-zero}
 use native.Mathlib.Omega.{arith}
 use lib.ListN.{length, take, drop, length-drop}
 use lib.Seq.{take-at}
 use borrow.Author.Tests.{le-ltb}
+use Rattle.meaning.specs.Sizes.{RUN-BYTES}
 use Rattle.meaning.specs.Basics.{writtenOver}
-use Rattle.meaning.specs.Plan.{Plan}
+use Rattle.meaning.specs.Records.{House}
 use Rattle.buffer.specs.Zeros.{zeros}
 use Rattle.buffer.proofs.ZeroLaws.{length-zeros}
-use Rattle.plan.specs.State.{soundOf, stateOf}
+use Rattle.plan.specs.State.{soundOf}
 use Rattle.changes.specs.Promise.{memoryOf}
 use Rattle.text.specs.Writes.{LONGEST}
-use Rattle.run.specs.Runs.{RUN-BYTES}
 use Rattle.record.specs.Turns.{Turn, wrote, wants, full, ends, turn}
 use Rattle.record.specs.Cuts.{Cut}
-use Rattle.record.specs.Promises.{lineOf, lastOf, turnOf, writtenBy, textOf, planAfter, OpenedRight, StepPromise, RunEnd, runEndHere, runEndBehind, Runs, next, last}
+use Rattle.record.specs.Promises.{houseOf, lineOf, lastOf, turnOf, writtenBy, textOf, houseAfter, OpenedRight, StepPromise, RunEnd, runEndHere, runEndBehind, Runs, next, last}
 use Rattle.record.specs.declared.Run.{Run}
 use Rattle.record.specs.declared.Stepped.{Stepped}
 use Rattle.record.specs.declared.Stepped.the-variants.{Wrote, Wants, Full, Ends}
@@ -35,8 +34,8 @@ answer wants after = Wants
 answer full after = Full
 answer (ends text refusal) after = Ends (lastOf (length text) refusal)
 
-says : (t : Turn) (s : Option Plan) (out after : List ℕ) → stateOf after ≡ planAfter t s → turnOf (answer t after) (writtenOver (textOf t) out) (stateOf after) ≡ t
-says (wrote text taken p lines) s out after e = ap₂ (λ (x : List ℕ) (q : Option Plan). wrote x taken q lines) (take-at text (drop (length text) out) (length text) refl) e
+says : (t : Turn) (s : House) (out after : List ℕ) → houseOf after ≡ houseAfter t s → turnOf (answer t after) (writtenOver (textOf t) out) (houseOf after) ≡ t
+says (wrote text taken p lines) s out after e = ap₂ (λ (x : List ℕ) (q : House). wrote x taken q lines) (take-at text (drop (length text) out) (length text) refl) e
 says wants s out after e = refl
 says full s out after e = refl
 says (ends text refusal) s out after e = ap (λ (x : List ℕ). ends x refusal) (take-at text (drop (length text) out) (length text) refl)
@@ -54,19 +53,19 @@ opened full after = tt
 opened (ends text refusal) after = tt
 
 -- a turn asks only whether there is room for a line
-same-turn : (s : Option Plan) (lines : ℕ) (left : List ℕ) (room : ℕ) → LONGEST ≤ room → turn s lines true left room ≡ turn s lines true left LONGEST
+same-turn : (s : House) (lines : ℕ) (left : List ℕ) (room : ℕ) → LONGEST ≤ room → turn s lines true left room ≡ turn s lines true left LONGEST
 same-turn s lines [] room h = refl
 same-turn s lines (k ∷ bytes) room h = rw (le-ltb room LONGEST h)
 
 module _ (m : List ℕ) (h : RUN-BYTES ≤ length m) (lines : ℕ) (left : List ℕ) where
   abbrev t : Turn
-  t = turn (stateOf m) lines true left LONGEST
+  t = turn (houseOf m) lines true left LONGEST
 
   abbrev out : List ℕ
   out = zeros (LONGEST + length (textOf t))
 
   abbrev after : List ℕ
-  after = memoryOf (planAfter t (stateOf m)) m
+  after = memoryOf (houseAfter t (houseOf m) .plan) m
 
   out-long : length out ≡ LONGEST + length (textOf t)
   out-long = length-zeros (LONGEST + length (textOf t))
@@ -74,17 +73,17 @@ module _ (m : List ℕ) (h : RUN-BYTES ≤ length m) (lines : ℕ) (left : List 
   room : LONGEST ≤ length out
   room = omega (arith, out-long)
 
-  same : turn (stateOf m) lines true left (length out) ≡ t
-  same = same-turn (stateOf m) lines left (length out) room
+  same : turn (houseOf m) lines true left (length out) ≡ t
+  same = same-turn (houseOf m) lines left (length out) room
 
   some-step : StepPromise m lines true left out after (writtenOver (textOf t) out) (answer t after)
   some-step =
       record {
-        turn-is = says t (stateOf m) out after (turn-keeps m h lines true left LONGEST .0) ∙ sym same;
+        turn-is = says t (houseOf m) out after (turn-keeps m h lines true left LONGEST .0) ∙ sym same;
         output-is = ap (λ (x : Turn). writtenOver (textOf x) out) (sym same);
         count-is = counts t after ∙ ap (λ (x : Turn). length (textOf x)) (sym same);
         inside = omega (arith, counts t after, out-long);
-        memory-is = ap (λ (x : Turn). memoryOf (planAfter x (stateOf m)) m) (sym same);
+        memory-is = ap (λ (x : Turn). memoryOf (houseAfter x (houseOf m) .plan) m) (sym same);
         opened-is = opened t after;
       }
 

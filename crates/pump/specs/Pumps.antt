@@ -5,10 +5,9 @@ use mathlib.Core.Bool.{Bool, true, false}
 use mathlib.Core.List.{List, [], _++_}
 use lib.ListN.{length, take, drop}
 use Rattle.run.specs.Runs.{InRun}
-use Rattle.plan.specs.State.{stateOf}
 use Rattle.record.specs.Turns.{wants, full, turn}
 use Rattle.record.specs.declared.Run.{Run}
-use Rattle.record.specs.Promises.{Runs, RunEnd, runEndHere, runEndBehind}
+use Rattle.record.specs.Promises.{houseOf, Runs, RunEnd, runEndHere, runEndBehind}
 use Rattle.pump.specs.declared.Pumped.{Pumped}
 
 abbrev pub pumpedAs : ℕ → ℕ → Run → Bool → Bool → ℕ → Pumped
@@ -34,5 +33,5 @@ pub record PumpPromise (m : List ℕ) (run : Run) (ended : Bool) (input output a
   pub in-run : InRun after (r .run .opened)
   -- why it stopped: no whole record is left and more is to come, or a line has no room
   pub stops-wanting : r .over ≡ false → r .full ≡ false
-      → turn (stateOf after) (r .run .lines) ended (drop (r .taken) input) (length output - r .written) ≡ wants
-  pub stops-full : r .full ≡ true → turn (stateOf after) (r .run .lines) ended (drop (r .taken) input) (length output - r .written) ≡ full
+      → turn (houseOf after) (r .run .lines) ended (drop (r .taken) input) (length output - r .written) ≡ wants
+  pub stops-full : r .full ≡ true → turn (houseOf after) (r .run .lines) ended (drop (r .taken) input) (length output - r .written) ≡ full

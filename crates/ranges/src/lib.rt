@@ -1,34 +1,45 @@
-// The parts of a set's 45 bytes of content, and RANGE.
+// The parts of a set's content, and RANGE.
 use meaning::Class;
 use meaning::OutgoingOf;
+use meaning::ca::CCDEF;
+use meaning::ca::IGN;
+use meaning::ca::LAST_COUNTED;
+use meaning::fa::DELIMITER_B;
+use meaning::sa::CDIAL;
+use meaning::sizes::CA_AT;
+use meaning::sizes::FA_AT;
+use meaning::sizes::FA_END;
+use meaning::sizes::OUTGOING_AT;
+use meaning::sizes::SA_AT;
 ghost use mathlib.Core.Path.{_≡_};
 ghost use lib.ListN.{length};
+ghost use Rattle.meaning.specs.Sizes.{CONTENT-BYTES};
 ghost use Rattle.meaning.specs.Basics.{all, isZero};
 ghost use Rattle.meaning.specs.Settings.{isOutgoingClass};
 ghost use Rattle.meaning.specs.Actions.{caBytes, saBytes, faBytes, mostOf, caInRange, casInRange, codesInRange, contentInRange};
 
 // The bytes of a set's conditioning actions.
 pub fn cas_of(content: &[u8]) -> &[u8]
-    requires { ⌜ length (now content) ≡ 45 ⌝ }
+    requires { ⌜ length (now content) ≡ CONTENT-BYTES ⌝ }
     ensures { λ r. ⌜ now r ≡ caBytes (now (content .entry)) ⌝ }
 {
-    &content[1..25]
+    &content[CA_AT..SA_AT]
 }
 
 // The bytes of a set's service actions.
 pub fn sas_of(content: &[u8]) -> &[u8]
-    requires { ⌜ length (now content) ≡ 45 ⌝ }
+    requires { ⌜ length (now content) ≡ CONTENT-BYTES ⌝ }
     ensures { λ r. ⌜ now r ≡ saBytes (now (content .entry)) ⌝ }
 {
-    &content[25..33]
+    &content[SA_AT..FA_AT]
 }
 
 // The bytes of a set's formatting actions.
 pub fn fas_of(content: &[u8]) -> &[u8]
-    requires { ⌜ length (now content) ≡ 45 ⌝ }
+    requires { ⌜ length (now content) ≡ CONTENT-BYTES ⌝ }
     ensures { λ r. ⌜ now r ≡ faBytes (now (content .entry)) ⌝ }
 {
-    &content[33..45]
+    &content[FA_AT..FA_END]
 }
 
 // Every byte is 0.
@@ -50,7 +61,7 @@ fn most_of(code: u8) -> u8
     ensures { λ r. ⌜ r ≡ mostOf code ⌝ }
 {
     match code {
-        1 => 16,
+        IGN => 16,
         2 => 3,
         3 => 8,
         4..=6 => 15,
@@ -63,10 +74,10 @@ fn most_of(code: u8) -> u8
 pub fn ca_in_range(code: u8, count: u8) -> bool
     ensures { λ r. ⌜ r ≡ caInRange code count ⌝ }
 {
-    if code <= 10 {
+    if code <= LAST_COUNTED {
         return 1 <= count && count <= most_of(code);
     }
-    code <= 15 && count == 0
+    code <= CCDEF && count == 0
 }
 
 // A list of conditioning actions: pairs up to the first code 0, and nothing behind it.
@@ -121,17 +132,17 @@ fn is_outgoing_class(b: u8) -> bool
 
 // A set's content: outgoing class, conditioning, service and formatting actions.
 pub fn content_in_range(content: &[u8]) -> bool
-    requires { ⌜ length (now content) ≡ 45 ⌝ }
+    requires { ⌜ length (now content) ≡ CONTENT-BYTES ⌝ }
     ensures { λ r. ⌜ r ≡ contentInRange (now (content .entry)) ⌝ }
 {
-    if !is_outgoing_class(content[0]) {
+    if !is_outgoing_class(content[OUTGOING_AT]) {
         return false;
     }
     if !cas_in_range(cas_of(content)) {
         return false;
     }
-    if !codes_in_range(sas_of(content), 5) {
+    if !codes_in_range(sas_of(content), CDIAL) {
         return false;
     }
-    codes_in_range(fas_of(content), 16)
+    codes_in_range(fas_of(content), DELIMITER_B)
 }

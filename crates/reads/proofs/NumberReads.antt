@@ -7,6 +7,7 @@ use mathlib.Core.Option.{some}
 use lib.ListN.{length}
 use lib.Dec.{lit≤}
 use borrow.Author.Tests.{lt-ltb, le-ltb}
+use Rattle.meaning.specs.Sizes.{DIGIT-ROOM}
 use Rattle.meaning.specs.Basics.{isEmpty}
 use Rattle.meaning.specs.Settings.{dialledInRange}
 use Rattle.meaning.specs.Rules.{chosenPlace, chosen}
@@ -41,16 +42,16 @@ module _ (m : List ℕ) (class : ℕ) (ds out : List ℕ) where
   number-plan e = rw (state-none m e) (record { result = record { refusal = refl; bytes = refl }; buffer = refl })
 
   module _ (e : soundOf m ≡ true) where
-    pub number-room : length out < 35 → ConditionedPromise m class ds out out (NotWritten Room)
-    number-room h = rw (state-some m e, lt-ltb (length out) 35 h) (record { result = record { refusal = refl; bytes = refl }; buffer = refl })
+    pub number-room : length out < DIGIT-ROOM → ConditionedPromise m class ds out out (NotWritten Room)
+    number-room h = rw (state-some m e, lt-ltb (length out) DIGIT-ROOM h) (record { result = record { refusal = refl; bytes = refl }; buffer = refl })
 
-    module _ (room : 35 ≤ length out) where
+    module _ (room : DIGIT-ROOM ≤ length out) where
       pub number-range : dialledInRange class ds ≡ false → ConditionedPromise m class ds out out (NotWritten Range)
-      number-range d = rw (state-some m e, le-ltb (length out) 35 room, d) (record { result = record { refusal = refl; bytes = refl }; buffer = refl })
+      number-range d = rw (state-some m e, le-ltb (length out) DIGIT-ROOM room, d) (record { result = record { refusal = refl; bytes = refl }; buffer = refl })
 
       pub number-known : dialledInRange class ds ≡ true → (after : List ℕ) (r : Written)
           → GivesRead (conditionedUnder (planOf m) ds (chosen class ds (planOf m .rules))) out after r → ConditionedPromise m class ds out after r
-      number-known d after r g = rw (state-some m e, le-ltb (length out) 35 room, d) g
+      number-known d after r g = rw (state-some m e, le-ltb (length out) DIGIT-ROOM room, d) g
 
 -- THE CHOICE
 
@@ -94,12 +95,12 @@ module _ (m : List ℕ) (k : ℕ) (ds out content cas : List ℕ) (named : Named
       unfolding conditionedBy conditionedDigits
       number-is = rw (named .is, actions-are, e, ← p .is, s, settings-are)
 
-      pub number-few : Applies m k ds → length (conditionedDigits settings ds cas prefix) ≤ 35
+      pub number-few : Applies m k ds → length (conditionedDigits settings ds cas prefix) ≤ DIGIT-ROOM
       number-few a =
-          let is : conditioned (some (planOf m)) 35 (a .class) ds ≡ read (conditionedDigits settings ds cas prefix) = rw (a .in-range, a .rule) number-is in
+          let is : conditioned (some (planOf m)) DIGIT-ROOM (a .class) ds ≡ read (conditionedDigits settings ds cas prefix) = rw (a .in-range, a .rule) number-is in
           let given : Conditions (planOf m) (a .class) ds (rulePlaced m k) content =
           record { in-range = true-is (dialledInRange (a .class) ds) (a .in-range); rule = a .rule; set = named .is; actions = rw actions-are e } in
-          let holds = every-number (planOf m) (sound-of (planOf m) (sound-is m (a .is-sound) .plan)) (a .class) ds (rulePlaced m k) content given 35 (lit≤ tt) in
+          let holds = every-number (planOf m) (sound-of (planOf m) (sound-is m (a .is-sound) .plan)) (a .class) ds (rulePlaced m k) content given DIGIT-ROOM (lit≤ tt) in
           rw is at (holds .length-is (ap (λ (x : Read). x .refusal) is) .1)
 
       pub number-given : (after : List ℕ) (n : ℕ) → Writes (conditionedDigits settings ds cas prefix) out after n

@@ -38,7 +38,7 @@ nothing = record { start = 0; count = 0 }
 pub too-low : (v : ℕ) → v < 1 → false ≡ within 1 LAST-CONDITIONED v
 too-low v h = rw (lt-leb 1 v h)
 
-pub not-low : (v : ℕ) → 1 ≤ v → leb v 10 ≡ within 1 LAST-CONDITIONED v
+pub not-low : (v : ℕ) → 1 ≤ v → leb v LAST-CONDITIONED ≡ within 1 LAST-CONDITIONED v
 not-low v h = rw (le-leb 1 v h)
 
 -- THE CHECKS BEFORE THE CHOICE

@@ -6,6 +6,7 @@ use mathlib.Core.List.{List, [], _∷_}
 use mathlib.Core.Option.{Option, none, some}
 use lib.ListN.{length}
 use lib.Dec.{leb, ltb, eqb}
+use Rattle.meaning.specs.Sizes.{SET-BODY}
 use Rattle.meaning.specs.Basics.{if_then_else_, isSome}
 use Rattle.meaning.specs.Refusals.{ROOM, RANGE, ABSENT, firstOf}
 use Rattle.meaning.specs.Settings.{roomsOf}
@@ -23,7 +24,7 @@ use Rattle.reads.specs.Promises.{GivesRead, ContentPromise, ReferrersPro
 -- WHAT A ROOM FOR SETS, A CONTENT AND A COUNT READ AS
 
 abbrev pub contentRead : ℕ → ℕ → ℕ → Option (List ℕ) → Read
-contentRead room size n content = readAfter (firstOf ((ltb size 47, ROOM) ∷ (leb room n, RANGE) ∷ [])) (kind1Body n content)
+contentRead room size n content = readAfter (firstOf ((ltb size SET-BODY, ROOM) ∷ (leb room n, RANGE) ∷ [])) (kind1Body n content)
 
 abbrev pub countRead : ℕ → ℕ → Option (List ℕ) → ℕ → Count
 countRead room n content number = countAfter (firstOf ((leb room n, RANGE) ∷ (not (isSome content), ABSENT) ∷ [])) number

@@ -6,6 +6,7 @@ ghost use mathlib.Core.List.{_∷_};
 ghost use mathlib.Core.Option.{some};
 ghost use Prim.Native.Nat.{_+_, _≤_, _/_, _%_};
 ghost use lib.ListN.{length, getD};
+ghost use Rattle.meaning.specs.Sizes.{CONTENT-BYTES, SET-BODY, DIGIT-ROOM};
 ghost use Rattle.meaning.specs.Basics.{writtenOver, within};
 ghost use Rattle.meaning.specs.Settings.{dialledInRange};
 ghost use Rattle.meaning.specs.Actions.{LAST-CONDITIONED};
@@ -25,32 +26,25 @@ use meaning::RulePlace;
 use meaning::SetNumber;
 use meaning::Span;
 use meaning::Written;
-
-// The most digits that a conditioned number has.
-const NUMBER: usize = 35;
-
-// The last value that conditioning sets.
-const LAST_CONDITIONED: u8 = 10;
-
-// The bytes of a kind 1 body, and where its content stands.
-const SET: usize = 47;
-
-const CONTENT: usize = 2;
+use meaning::fa::LAST_CONDITIONED;
+use meaning::sizes::DIGIT_ROOM;
+use meaning::sizes::SET_BODY;
+use meaning::sizes::SET_NUMBER_BYTES;
 
 // A SET'S CONTENT
 
 // A kind 1 body at the front of the buffer; the bytes behind it stay.
 fn write_content(set: SetNumber, content: &[u8], out: &mut [u8])
-    requires { ⌜ (length (now content) ≡ 45) × (47 ≤ length (now out)) ⌝ }
+    requires { ⌜ (length (now content) ≡ CONTENT-BYTES) × (SET-BODY ≤ length (now out)) ⌝ }
     ensures { λ _. ⌜ now (out .exit) ≡ writtenOver (set .0 / 256 ∷ set .0 % 256 ∷ now (content .entry)) (now (out .entry)) ⌝ }
 {
     buffer::put_word(out, 0, set.0 as usize);
-    buffer::copy(&mut out[CONTENT..SET], content);
+    buffer::copy(&mut out[SET_NUMBER_BYTES..SET_BODY], content);
 }
 
 // Over a plan that is known to be sound, with room for the body.
 pub fn set_content_known(plan: &[u8], set: SetNumber, out: &mut [u8]) -> Written
-    requires { ⌜ (soundOf (now plan) ≡ true) × (47 ≤ length (now out)) ⌝ }
+    requires { ⌜ (soundOf (now plan) ≡ true) × (SET-BODY ≤ length (now out)) ⌝ }
     ensures { λ r. ⌜ GivesRead (setContent (some (planOf (now (plan .entry)))) (length (now (out .entry))) (set .0)) (now (out .entry)) (now (out .exit)) r ⌝ }
 {
     if changes::is_over_room(plan, set) {
@@ -60,17 +54,17 @@ pub fn set_content_known(plan: &[u8], set: SetNumber, out: &mut [u8]) -> Written
         return Written::Refused(Refusal::Absent);
     }
     write_content(set, plan::content(plan, set), out);
-    Written::Bytes(SET)
+    Written::Bytes(SET_BODY)
 }
 
-// The content of a set, as the 47 bytes of a kind 1 body at the front of the buffer.
+// The content of a set, as a kind 1 body at the front of the buffer.
 pub fn set_content(plan: &[u8], set: SetNumber, out: &mut [u8]) -> Written
     ensures { λ r. ⌜ ContentPromise (now (plan .entry)) (set .0) (now (out .entry)) (now (out .exit)) r ⌝ }
 {
     if !examiner::sound(plan) {
         return Written::Refused(Refusal::Plan);
     }
-    if out.len() < SET {
+    if out.len() < SET_BODY {
         return Written::Refused(Refusal::Room);
     }
     set_content_known(plan, set, out)
@@ -107,7 +101,7 @@ pub fn referrers(plan: &[u8], set: SetNumber) -> Counted
 // By the rule at a place, which is chosen for the number.
 fn conditioned_at<'a>(plan: &'a [u8], place: RulePlace, digits: &'a [u8], out: &mut [u8]) -> Written
     requires { ⌜ Applies (now plan) (place .0) (now digits) ⌝ }
-    requires { ⌜ 35 ≤ length (now out) ⌝ }
+    requires { ⌜ DIGIT-ROOM ≤ length (now out) ⌝ }
     ensures { λ r. ⌜ GivesRead (conditionedUnder (planOf (now (plan .entry))) (now (digits .entry)) (some (getD (planOf (now (plan .entry)) .rules) (place .0) noRule))) (now (out .entry)) (now (out .exit)) r ⌝ }
 {
     let cas = ranges::cas_of(choice::content_at(plan, place));
@@ -124,7 +118,7 @@ fn conditioned_at<'a>(plan: &'a [u8], place: RulePlace, digits: &'a [u8], out: &
 
 // Over a plan that is known to be sound, for digits in range, with room for the number.
 pub fn conditioned_known<'a>(plan: &'a [u8], class: u8, digits: &'a [u8], out: &mut [u8]) -> Written
-    requires { ⌜ (soundOf (now plan) ≡ true) × (dialledInRange class (now digits) ≡ true) × (35 ≤ length (now out)) ⌝ }
+    requires { ⌜ (soundOf (now plan) ≡ true) × (dialledInRange class (now digits) ≡ true) × (DIGIT-ROOM ≤ length (now out)) ⌝ }
     ensures { λ r. ⌜ GivesRead (conditionedUnder (planOf (now (plan .entry))) (now (digits .entry)) (chosen class (now (digits .entry)) (planOf (now (plan .entry)) .rules))) (now (out .entry)) (now (out .exit)) r ⌝ }
 {
     match choice::choose(plan, class, digits) {
@@ -140,7 +134,7 @@ pub fn conditioned<'a>(plan: &'a [u8], class: u8, digits: &'a [u8], out: &mut [u
     if !examiner::sound(plan) {
         return Written::Refused(Refusal::Plan);
     }
-    if out.len() < NUMBER {
+    if out.len() < DIGIT_ROOM {
         return Written::Refused(Refusal::Room);
     }
     if !settings::dialled_in_range(class, digits) {

@@ -1,16 +1,17 @@
 -- The lines of opening and provisioning, and the plan that they leave.
-use Prim.Native.Nat.{ℕ, zero, suc, _+_, _≤_}
+use Prim.Native.Nat.{ℕ, zero, suc, _+_}
 use mathlib.Core.Path.{_≡_, refl, ap, ap₂, sym, _∙_}
 use mathlib.Core.Bool.{Bool, true, false, _||_, not}
 use mathlib.Core.List.{List}
 use mathlib.Core.Option.{Option, none, some}
 use native.Mathlib.Omega.{arith}
 use lib.ListN.{length}
-use borrow.Author.Tests.{le-leb, ne-eqb, eq-eqb}
+use lib.Dec.{eqb}
+use borrow.Author.Tests.{leb-true, ne-eqb, eq-eqb}
 use Rattle.meaning.specs.Basics.{if_then_else_, isZero, isSome, writtenOver}
 use Rattle.meaning.specs.Plan.{Plan}
-use Rattle.meaning.specs.Calls.{Operation, openPlan, addSet, replaceSet, removeSet, addRule, changeRule, removeRule, Call, bodyLength, bodyOf, refusal, made, after}
-use Rattle.meaning.specs.Records.{acceptedLine, lacksProgramRoom, operationOf, callOf, recordText, recordPlan}
+use Rattle.meaning.specs.Calls.{Operation, openPlan, addSet, replaceSet, removeSet, addRule, changeRule, removeRule, Call, REMOVE-RULE, LIST, isCall, bodyLength, bodyOf, refusal, made, after}
+use Rattle.meaning.specs.Records.{acceptedLine, lacksProgramRoom, operationOf, callOf, House, withPlan, recordText, recordHouse}
 use Rattle.meaning.proofs.Tests.{is-false, at-below}
 use Rattle.plan.specs.Layout.{planOf}
 use Rattle.plan.specs.State.{soundOf, stateOf}
@@ -21,7 +22,7 @@ use Rattle.run.proofs.RunLaws.{memory-kept, run-state}
 use Rattle.text.specs.Writes.{Writes}
 use Rattle.text.proofs.Lines.{front-is}
 use Rattle.record.specs.Turns.{Turn, wrote, recordTurn}
-use Rattle.record.specs.Promises.{lineOf, planAfter, ReadPromise, LinePromise, openedAfter}
+use Rattle.record.specs.Promises.{houseOf, lineOf, houseAfter, ReadPromise, LinePromise, openedAfter}
 use Rattle.record.specs.declared.Run.{Run}
 use Rattle.record.specs.declared.Line.{Line}
 
@@ -51,14 +52,14 @@ made-some changeRule (some p) b = refl
 made-some removeRule none b = refl
 made-some removeRule (some p) b = refl
 
-opening-kind : (k : ℕ) → k ≤ 6 → isOpening (operationOf k) ≡ isZero k
-unfolding operationOf
+opening-kind : (k : ℕ) → isCall k ≡ true → isOpening (operationOf k) ≡ isZero k
+unfolding operationOf isCall
 opening-kind zero h = refl
 opening-kind (suc k) h =
-    is-false (isOpening (operationOf (suc k))) (at-below (λ (j : ℕ). not (isOpening (operationOf (suc j)))) 6 tt k (omega arith))
+    is-false (isOpening (operationOf (suc k))) (at-below (λ (j : ℕ). not (isOpening (operationOf (suc j)))) REMOVE-RULE tt k (omega (arith, leb-true (suc k) REMOVE-RULE h)))
     ∙ sym (ne-eqb (suc k) 0 (λ q. omega (arith, q)))
 
-after-some : (s : Option Plan) (k : ℕ) (body : List ℕ) → k ≤ 6
+after-some : (s : Option Plan) (k : ℕ) (body : List ℕ) → isCall k ≡ true
     → isSome (after lacksProgramRoom s (callOf k body)) ≡ openedAfter (isSome s) k (refusal lacksProgramRoom s (callOf k body))
 unfolding after
 after-some s k body h = go (isZero (refusal lacksProgramRoom s (callOf k body)))
@@ -88,16 +89,20 @@ module _ (opened : Bool) (k number : ℕ) (n : ℕ) (e : n ≡ number) where
 
 -- THE RECORD OF A CALL
 
-call-turn : (s : Option Plan) (lines k : ℕ) (body : List ℕ) → k ≤ 6
-    → recordTurn s lines k body
-    ≡ wrote (acceptedLine (refusal lacksProgramRoom s (callOf k body))) (1 + bodyLength k) (after lacksProgramRoom s (callOf k body)) 0
-unfolding recordTurn recordText recordPlan
-call-turn s lines k body h = rw (ne-eqb k 9 (λ q. omega arith), le-leb k 6 h)
+call-not-list : (k : ℕ) → isCall k ≡ true → eqb k LIST ≡ false
+unfolding isCall
+call-not-list k h = ne-eqb k LIST (λ q. omega (arith, leb-true k REMOVE-RULE h, q))
 
-module _ (m : List ℕ) (opened : Bool) (run : InRun m opened) (k : ℕ) (few : k ≤ 6) (body : List ℕ) (size : length body ≡ bodyLength k) where
+call-turn : (s : House) (lines k : ℕ) (body : List ℕ) → isCall k ≡ true
+    → recordTurn s lines k body
+    ≡ wrote (acceptedLine (refusal lacksProgramRoom (s .plan) (callOf k body))) (1 + bodyLength k) (withPlan (after lacksProgramRoom (s .plan) (callOf k body)) s) 0
+unfolding recordTurn recordText recordHouse
+call-turn s lines k body h = rw (call-not-list k h, h)
+
+module _ (m : List ℕ) (opened : Bool) (run : InRun m opened) (k : ℕ) (is-call : isCall k ≡ true) (body : List ℕ) (size : length body ≡ bodyLength k) where
   pub call-line : {out left last : List ℕ} {n number : ℕ} {r : Line} (lines : ℕ) (there : Bool) → RunProvides (callOf k body) m left number
       → Writes (acceptedLine number) out last n → there ≡ openedAfter opened k number → r ≡ lineOf (1 + length body) n there 0
-      → LinePromise (recordTurn (stateOf m) lines k body) m out left last r
+      → LinePromise (recordTurn (houseOf m) lines k body) m out left last r
   call-line {out} {left} {last} {n} {number} lines there p w o e =
       let c : Call = callOf k body in
       let plan : Option Plan = after lacksProgramRoom (stateOf m) c in
@@ -106,13 +111,13 @@ module _ (m : List ℕ) (opened : Bool) (run : InRun m opened) (k : ℕ) (few : 
       let flag : soundOf left ≡ there =
       sound-some left
       ∙ (ap isSome state
-      ∙ (after-some (stateOf m) k body few
+      ∙ (after-some (stateOf m) k body is-call
       ∙ (ap₂ (λ (b : Bool) (j : ℕ). openedAfter b k j) (sym (sound-some m) ∙ run .state) (sym (p .number-is)) ∙ sym o))) in
-      rw (call-turn (stateOf m) lines k body few, e)
+      rw (call-turn (houseOf m) lines k body is-call, e)
       (record {
         turn-is =
-            ap (λ (x : List ℕ). wrote x (1 + length body) (stateOf left) 0) (front-is w ∙ text)
-            ∙ ap₂ (λ (j : ℕ) (q : Option Plan). wrote (acceptedLine (refusal lacksProgramRoom (stateOf m) c)) (1 + j) q 0) size state;
+            ap (λ (x : List ℕ). wrote x (1 + length body) (houseOf left) 0) (front-is w ∙ text)
+            ∙ ap₂ (λ (j : ℕ) (q : Option Plan). wrote (acceptedLine (refusal lacksProgramRoom (stateOf m) c)) (1 + j) (withPlan q (houseOf m)) 0) size state;
         output-is = w .buffer-is ∙ ap (λ (x : List ℕ). writtenOver x out) text;
         count-is = w .count-is ∙ ap length text;
         inside = w .inside;
@@ -129,6 +134,6 @@ kept-line {t} {m} {out} {last} {run} {r} s p =
       output-is = p .output-is;
       count-is = p .count-is;
       inside = p .inside;
-      memory-is = sym (memory-kept m) ∙ ap (λ (x : Turn). memoryOf (planAfter x (stateOf m)) m) (p .turn-is);
+      memory-is = sym (memory-kept m) ∙ ap (λ (x : Turn). memoryOf (houseAfter x (houseOf m) .plan) m) (p .turn-is);
       opened-is = s ∙ sym (p .opened-is);
     }

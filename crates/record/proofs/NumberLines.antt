@@ -10,6 +10,7 @@ use native.Mathlib.Omega.{arith}
 use lib.ListN.{length, take}
 use lib.Seq.{take-all}
 use borrow.Author.Tests.{le-ltb}
+use Rattle.meaning.specs.Sizes.{NUMBER-BYTES, DIGIT-ROOM}
 use Rattle.meaning.specs.Refusals.{PLAN, RANGE}
 use Rattle.meaning.specs.Settings.{numberOf, numberInRange}
 use Rattle.meaning.specs.Plan.{Plan}
@@ -59,28 +60,28 @@ module _ {a : Answer} {held : List ℕ} {r : Answered} (p : Printable a) (h : Ho
 
 -- A RECORD OF A NUMBER, whose body has just its length
 
-module _ (m body : List ℕ) (whole : length body ≡ 73) where
-  refused-line : (o : Option Plan) (r : ℕ) {out last : List ℕ} {n : ℕ} → answer o 35 body ≡ refused r → r ≢ 0 → Writes (noLine r) out last n
-      → Writes (numberLine (answer o 35 body)) out last n
+module _ (m body : List ℕ) (whole : length body ≡ NUMBER-BYTES) where
+  refused-line : (o : Option Plan) (r : ℕ) {out last : List ℕ} {n : ℕ} → answer o DIGIT-ROOM body ≡ refused r → r ≢ 0 → Writes (noLine r) out last n
+      → Writes (numberLine (answer o DIGIT-ROOM body)) out last n
   unfolding refused
   refused-line o r e h w = named (refused-is (refused r) h ∙ ap numberLine (sym e)) w
 
-  pub no-plan-line : {out last : List ℕ} {n : ℕ} → soundOf m ≡ false → Writes (noLine PLAN) out last n → Writes (numberLine (answer (stateOf m) 35 body)) out last n
+  pub no-plan-line : {out last : List ℕ} {n : ℕ} → soundOf m ≡ false → Writes (noLine PLAN) out last n → Writes (numberLine (answer (stateOf m) DIGIT-ROOM body)) out last n
   no-plan-line s w =
       rw (state-none m s)
-      (let is : answer none 35 body ≡ refused PLAN = rw (le-ltb (length body) 73 (omega arith)) in refused-line none PLAN is (λ q. omega (arith, q)) w)
+      (let is : answer none DIGIT-ROOM body ≡ refused PLAN = rw (le-ltb (length body) NUMBER-BYTES (omega arith)) in refused-line none PLAN is (λ q. omega (arith, q)) w)
 
   module _ (s : soundOf m ≡ true) where
     pub out-of-range-line : {out last : List ℕ} {n : ℕ} → numberInRange body ≡ false → Writes (noLine RANGE) out last n
-        → Writes (numberLine (answer (stateOf m) 35 body)) out last n
+        → Writes (numberLine (answer (stateOf m) DIGIT-ROOM body)) out last n
     out-of-range-line q w =
         rw (state-some m s)
-        (let is : answer (some (planOf m)) 35 body ≡ refused RANGE = rw (le-ltb (length body) 73 (omega arith), take-all 73 body (omega arith), q) in
+        (let is : answer (some (planOf m)) DIGIT-ROOM body ≡ refused RANGE = rw (le-ltb (length body) NUMBER-BYTES (omega arith), take-all NUMBER-BYTES body (omega arith), q) in
         refused-line (some (planOf m)) RANGE is (λ z. omega (arith, z)) w)
 
     module _ (q : numberInRange body ≡ true) where
-      known : answer (stateOf m) 35 body ≡ answerOf (planOf m) (numberOf body)
-      known = rw (state-some m s, le-ltb (length body) 73 (omega arith), take-all 73 body (omega arith), q)
+      known : answer (stateOf m) DIGIT-ROOM body ≡ answerOf (planOf m) (numberOf body)
+      known = rw (state-some m s, le-ltb (length body) NUMBER-BYTES (omega arith), take-all NUMBER-BYTES body (omega arith), q)
 
       fine : Printable (answerOf (planOf m) (numberOf body))
       fine = printable (planOf m) (sound-is m s .plan) body (true-is (numberInRange body) q)
@@ -97,5 +98,5 @@ module _ {m body : List ℕ} (k : Known m body) {held : List ℕ} {r : Answered}
   known-in = number-in answer-fine h
 
   pub known-line : {out last : List ℕ} {n : ℕ} → Writes (numberLine (answerIn r (take (r .digits - 0) held))) out last n
-      → Writes (numberLine (answer (stateOf m) 35 body)) out last n
+      → Writes (numberLine (answer (stateOf m) DIGIT-ROOM body)) out last n
   known-line w = named (line-is answer-fine h ∙ ap numberLine (sym (known m body (k .whole) (k .sound) (k .range)))) w

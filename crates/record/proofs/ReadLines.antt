@@ -10,17 +10,19 @@ use native.Mathlib.Omega.{arith}
 use lib.ListN.{length, take, drop, getD, getElem?, replicate, length-map, length-take, List·getD-map}
 use lib.Seq.{take-at}
 use lib.Dec.{T, leb, leb→le}
+use borrow.Author.Tests.{leb-true, leb-false}
+use Rattle.meaning.specs.Sizes.{SET-NUMBER-BYTES, PREFIX-AT, FILTER-BYTES, NUMBER-BYTES, DIGIT-ROOM}
 use Rattle.meaning.specs.Basics.{if_then_else_, all, count, isZero, isDigit, isSome, within, word, part, padded, digitsOf, digitsInRange}
 use Rattle.meaning.specs.Refusals.{PLAN, RANGE, ABSENT, Line, firstOf}
 use Rattle.meaning.specs.Filters.{filterOf, filterRanges, filterInRange}
 use Rattle.meaning.specs.Rules.{Rule, filterIn, names}
-use Rattle.meaning.specs.Plan.{Plan, sized, codePasses, codesPass, held, referrers}
+use Rattle.meaning.specs.Plan.{sized, codePasses, codesPass, held, referrers}
 use Rattle.meaning.specs.History.{noRule}
-use Rattle.meaning.specs.Calls.{bodyLength}
+use Rattle.meaning.specs.Calls.{REMOVE-RULE, NUMBER, REFS, LIST, isKind, isCall, bodyLength}
 use Rattle.meaning.specs.Answer.{answer}
 use Rattle.meaning.specs.Reads.{overRoom, countAfter, referrerCount, Listed, listed, listing, listedOr, ruleAtPlace}
 use Rattle.meaning.specs.Answers.{setOf, countOf, ruleListed}
-use Rattle.meaning.specs.Records.{noLine, numberLine, refsLine, listedLine, endLine, recordText, recordPlan}
+use Rattle.meaning.specs.Records.{noLine, numberLine, refsLine, listedLine, endLine, recordText, recordHouse, House}
 use Rattle.meaning.specs.declared.Counted.{Counted}
 use Rattle.meaning.specs.declared.SetNumber.{SetNumber}
 use Rattle.meaning.specs.declared.ListedRule.{ListedRule}
@@ -34,19 +36,19 @@ use Rattle.text.specs.Writes.{Writes, listedOf, ListedIn}
 use Rattle.text.proofs.Lines.{named, front-is}
 use Rattle.record.proofs.AnswerFacts.{digits-of}
 use Rattle.record.specs.Turns.{Turn, wrote, listTurn, recordTurn}
-use Rattle.record.specs.Promises.{lineOf, ReadPromise}
+use Rattle.record.specs.Promises.{houseOf, lineOf, ReadPromise}
 use Rattle.record.specs.declared.Run.{Run}
 use Rattle.record.specs.declared.Line.{Line as Written}
 
 -- A LINE THAT IS WRITTEN
 
 module _ {text out last : List ℕ} {n : ℕ} (m : List ℕ) (run : Run) (w : Writes text out last n) where
-  pub read-line : {t : Turn} {r : Written} (taken lines : ℕ) (opened : Bool) → t ≡ wrote text taken (stateOf m) lines → r ≡ lineOf taken n opened lines
+  pub read-line : {t : Turn} {r : Written} (taken lines : ℕ) (opened : Bool) → t ≡ wrote text taken (houseOf m) lines → r ≡ lineOf taken n opened lines
       → opened ≡ run .opened → ReadPromise t m run out last r
   read-line taken lines opened t-is r-is o =
       rw (t-is, r-is)
       (record {
-        turn-is = ap (λ (x : List ℕ). wrote x taken (stateOf m) lines) (front-is w);
+        turn-is = ap (λ (x : List ℕ). wrote x taken (houseOf m) lines) (front-is w);
         output-is = w .buffer-is;
         count-is = w .count-is;
         inside = w .inside;
@@ -98,9 +100,9 @@ digits-few lo hi (n ∷ ds) t =
     let most : n ≤ hi = leb→le n hi (and-right (leb lo n) (leb n hi) (and-left (within lo hi n) (all isDigit (take n ds) && all isZero (drop n ds)) t)) in
     omega (arith, length-take n ds)
 
-prefix-range : (code : List ℕ) → T (codePasses code) → T (digitsInRange 0 16 (part 1 17 code))
+prefix-range : (code : List ℕ) → T (codePasses code) → T (digitsInRange 0 16 (part PREFIX-AT 17 code))
 unfolding codePasses filterInRange
-prefix-range code t = all-at 1 (filterRanges code) (and-right (sized 19 code) (filterInRange code) t)
+prefix-range code t = all-at 1 (filterRanges code) (and-right (sized FILTER-BYTES code) (filterInRange code) t)
 
 -- a prefix that is filled up
 prefix-back : (xs : List ℕ) → take (length xs) (padded 16 xs) ≡ xs
@@ -114,7 +116,7 @@ listed-in : (r : Rule) → T (codePasses (r .code)) → ListedIn (ruleListed (0,
 unfolding filterOf
 listed-in r t =
     let range = prefix-range (r .code) t in
-    record { few = digits-few 0 16 (part 1 17 (r .code)) range; digits = rw (prefix-back (filterIn r .prefix)) (digits-of 0 16 (part 1 17 (r .code)) range) }
+    record { few = digits-few 0 16 (part PREFIX-AT 17 (r .code)) range; digits = rw (prefix-back (filterIn r .prefix)) (digits-of 0 16 (part PREFIX-AT 17 (r .code)) range) }
 
 module _ {A : Type 0} where
   no-element : (xs : List A) (k : ℕ) → length xs ≤ k → getElem? xs k ≡ none
@@ -126,7 +128,7 @@ module _ {A : Type 0} where
 
 module _ (m : List ℕ) (run : Run) where
   pub list-no-plan : {out last : List ℕ} {n : ℕ} {r : Written} → soundOf m ≡ false → run .opened ≡ false → Writes (noLine PLAN) out last n → r ≡ lineOf 1 n false 0
-      → ReadPromise (listTurn (stateOf m) (run .lines)) m run out last r
+      → ReadPromise (listTurn (houseOf m) (run .lines)) m run out last r
   list-no-plan s o w e = read-line m run w 1 0 false (rw (state-none m s)) e (sym o)
 
   module _ (s : soundOf m ≡ true) (o : run .opened ≡ true) where
@@ -138,9 +140,9 @@ module _ (m : List ℕ) (run : Run) where
     listing-few c e = rw (e, length-map (planOf m .rules) listed) (rules-few m s)
 
     pub list-end : {out last : List ℕ} {n : ℕ} {r : Written} (c : ℕ) → c ≡ length rules → c ≤ run .lines → Writes (endLine c) out last n → r ≡ lineOf 1 n true 0
-        → ReadPromise (listTurn (stateOf m) (run .lines)) m run out last r
+        → ReadPromise (listTurn (houseOf m) (run .lines)) m run out last r
     list-end c c-is h w e =
-        let t : listTurn (stateOf m) (run .lines) ≡ wrote (endLine c) 1 (stateOf m) 0 = rw (state-some m s, no-element rules (run .lines) (rw (← c-is) h), c-is) in
+        let t : listTurn (houseOf m) (run .lines) ≡ wrote (endLine c) 1 (houseOf m) 0 = rw (state-some m s, no-element rules (run .lines) (rw (← c-is) h), c-is) in
         read-line m run w 1 0 true t e (sym o)
 
     module _ (c : ℕ) (c-is : c ≡ length rules) (h : run .lines < c) where
@@ -166,38 +168,39 @@ module _ (m : List ℕ) (run : Run) where
         next-in = rw rule-is (listed-in here passes)
 
         pub list-next : {out last : List ℕ} {n : ℕ} {r : Written} → Writes (listedLine (listedOf rule)) out last n → r ≡ lineOf 0 n true (run .lines + 1)
-            → ReadPromise (listTurn (stateOf m) (run .lines)) m run out last r
+            → ReadPromise (listTurn (houseOf m) (run .lines)) m run out last r
         list-next w e =
-            let t : listTurn (stateOf m) (run .lines) ≡ wrote (listedLine (listed here)) 0 (stateOf m) (run .lines + 1) = rw (state-some m s, rule-here) in
+            let t : listTurn (houseOf m) (run .lines) ≡ wrote (listedLine (listed here)) 0 (houseOf m) (run .lines + 1) = rw (state-some m s, rule-here) in
             let text : listedLine (listedOf rule) ≡ listedLine (listed here) = ap listedLine (ap listedOf rule-is ∙ listed-back (listed here)) in
             read-line m run (named text w) 0 (run .lines + 1) true t e (sym o)
 
 -- A RECORD THAT READS THE PLAN
 
-number-turn : (s : Option Plan) (lines : ℕ) (body : List ℕ) → recordTurn s lines 7 body ≡ wrote (numberLine (answer s 35 body)) 74 s 0
-unfolding recordTurn recordText recordPlan bodyLength
+number-turn : (s : House) (lines : ℕ) (body : List ℕ) → recordTurn s lines NUMBER body ≡ wrote (numberLine (answer (s .plan) DIGIT-ROOM body)) (1 + NUMBER-BYTES) s 0
+unfolding recordTurn recordText recordHouse isCall bodyLength
 number-turn s lines body = refl
 
-refs-turn : (s : Option Plan) (lines : ℕ) (body : List ℕ) → recordTurn s lines 8 body ≡ wrote (refsLine (referrerCount s (word body 0))) 3 s 0
-unfolding recordTurn recordText recordPlan bodyLength
+refs-turn : (s : House) (lines : ℕ) (body : List ℕ) → recordTurn s lines REFS body ≡ wrote (refsLine (referrerCount (s .plan) (word body 0))) (1 + SET-NUMBER-BYTES) s 0
+unfolding recordTurn recordText recordHouse isCall bodyLength
 refs-turn s lines body = refl
 
-list-turn : (s : Option Plan) (lines : ℕ) (body : List ℕ) → recordTurn s lines 9 body ≡ listTurn s lines
+list-turn : (s : House) (lines : ℕ) (body : List ℕ) → recordTurn s lines LIST body ≡ listTurn s lines
 unfolding recordTurn
 list-turn s lines body = refl
 
 module _ (m : List ℕ) (run : Run) (k : ℕ) (body : List ℕ) {out last : List ℕ} {r : Written} where
-  pub read-number : {n : ℕ} → k ≡ 7 → Writes (numberLine (answer (stateOf m) 35 body)) out last n → r ≡ lineOf 74 n (run .opened) 0
-      → ReadPromise (recordTurn (stateOf m) (run .lines) k body) m run out last r
-  read-number h w e = read-line m run w 74 0 (run .opened) (rw h (number-turn (stateOf m) (run .lines) body)) e refl
+  pub read-number : {n : ℕ} → k ≡ NUMBER → Writes (numberLine (answer (stateOf m) DIGIT-ROOM body)) out last n → r ≡ lineOf (1 + NUMBER-BYTES) n (run .opened) 0
+      → ReadPromise (recordTurn (houseOf m) (run .lines) k body) m run out last r
+  read-number h w e = read-line m run w (1 + NUMBER-BYTES) 0 (run .opened) (rw h (number-turn (houseOf m) (run .lines) body)) e refl
 
-  pub read-refs : {n : ℕ} → k ≡ 8 → Writes (refsLine (referrerCount (stateOf m) (word body 0))) out last n → r ≡ lineOf 3 n (run .opened) 0
-      → ReadPromise (recordTurn (stateOf m) (run .lines) k body) m run out last r
-  read-refs h w e = read-line m run w 3 0 (run .opened) (rw h (refs-turn (stateOf m) (run .lines) body)) e refl
+  pub read-refs : {n : ℕ} → k ≡ REFS → Writes (refsLine (referrerCount (stateOf m) (word body 0))) out last n → r ≡ lineOf (1 + SET-NUMBER-BYTES) n (run .opened) 0
+      → ReadPromise (recordTurn (houseOf m) (run .lines) k body) m run out last r
+  read-refs h w e = read-line m run w (1 + SET-NUMBER-BYTES) 0 (run .opened) (rw h (refs-turn (houseOf m) (run .lines) body)) e refl
 
-  pub read-list : 7 ≤ k → k ≤ 9 → k ≢ 7 → k ≢ 8 → ReadPromise (listTurn (stateOf m) (run .lines)) m run out last r
-      → ReadPromise (recordTurn (stateOf m) (run .lines) k body) m run out last r
-  read-list l h a b p =
-      let least : 9 ≤ k = omega (arith, a, b) in
-      let is : k ≡ 9 = omega arith in
-      rw (is, list-turn (stateOf m) (run .lines) body) p
+  pub read-list : isCall k ≡ false → isKind k ≡ true → k ≢ NUMBER → k ≢ REFS → ReadPromise (listTurn (houseOf m) (run .lines)) m run out last r
+      → ReadPromise (recordTurn (houseOf m) (run .lines) k body) m run out last r
+  unfolding isKind isCall
+  read-list c h a b p =
+      let least : LIST ≤ k = omega (arith, leb-false k REMOVE-RULE c, a, b) in
+      let is : k ≡ LIST = omega (arith, least, leb-true k LIST h) in
+      rw (is, list-turn (houseOf m) (run .lines) body) p

@@ -3,7 +3,6 @@ use Prim.Native.Nat.{ℕ, _+_, _-_, _≤_, _<_}
 use mathlib.Core.Path.{_≡_, refl, ap, sym, _∙_}
 use mathlib.Core.Bool.{Bool, true, false}
 use mathlib.Core.List.{List, [], _∷_}
-use mathlib.Core.Option.{Option}
 use native.Mathlib.Omega.{arith}
 use lib.ListN.{length, take, drop, getD, length-drop}
 use lib.Seq.{take-at, length-take-le}
@@ -11,16 +10,14 @@ use lib.Dec.{ltb, leb·suc-suc}
 use borrow.Author.Tests.{lt-ltb, le-ltb}
 use Rattle.meaning.specs.Basics.{if_then_else_, writtenOver}
 use Rattle.meaning.specs.Refusals.{KIND, CUT}
-use Rattle.meaning.specs.Plan.{Plan}
-use Rattle.meaning.specs.Calls.{bodyLength}
-use Rattle.meaning.specs.Records.{noLine}
-use Rattle.plan.specs.State.{stateOf}
+use Rattle.meaning.specs.Calls.{isKind, bodyLength}
+use Rattle.meaning.specs.Records.{House, noLine}
 use Rattle.changes.specs.Promise.{memoryOf}
 use Rattle.run.proofs.RunLaws.{memory-kept}
 use Rattle.text.specs.Writes.{LONGEST, Writes}
 use Rattle.text.proofs.Lines.{front-is}
 use Rattle.record.specs.Turns.{Turn, wants, full, ends, recordTurn, turnAt, turn, isWhole}
-use Rattle.record.specs.Promises.{turnOf, writtenBy, textOf, planAfter, OpenedRight, LinePromise, lastOf, cutAnswer, cutText, CutPromise, StepPromise}
+use Rattle.record.specs.Promises.{houseOf, turnOf, writtenBy, textOf, houseAfter, OpenedRight, LinePromise, lastOf, cutAnswer, cutText, CutPromise, StepPromise}
 use Rattle.record.specs.declared.Line.{Line}
 use Rattle.record.specs.declared.Stepped.{Stepped}
 use Rattle.record.specs.declared.Stepped.the-variants.{Wrote, Wants, Full, Ends}
@@ -45,7 +42,7 @@ whole-test (k ∷ bytes) n some-input e = rw e (leb·suc-suc (bodyLength k) (len
 
 -- THE TURNS
 
-module _ (s : Option Plan) (lines : ℕ) (ended : Bool) where
+module _ (s : House) (lines : ℕ) (ended : Bool) where
   empty-turn : (input : List ℕ) (room : ℕ) → length input ≡ 0 → turn s lines ended input room ≡ (if ended then ends [] 0 else wants)
   empty-turn [] room e = refl
   empty-turn (k ∷ bytes) room e = absurd (omega (arith, e))
@@ -59,23 +56,23 @@ module _ (s : Option Plan) (lines : ℕ) (ended : Bool) where
   kind-turn (k ∷ bytes) room n h = rw (le-ltb room LONGEST h)
 
   module _ (k : ℕ) (bytes : List ℕ) where
-    unknown-turn : 9 < k → turnAt s lines ended k bytes ≡ ends (noLine KIND) KIND
+    unknown-turn : isKind k ≡ false → turnAt s lines ended k bytes ≡ ends (noLine KIND) KIND
     unfolding turnAt
-    unknown-turn h = rw (lt-ltb 9 k h)
+    unknown-turn h = rw h
 
-    cut-turn : k ≤ 9 → length bytes < bodyLength k → turnAt s lines ended k bytes ≡ (if ended then ends (noLine CUT) CUT else wants)
+    cut-turn : isKind k ≡ true → length bytes < bodyLength k → turnAt s lines ended k bytes ≡ (if ended then ends (noLine CUT) CUT else wants)
     unfolding turnAt
-    cut-turn h l = rw (le-ltb 9 k h, lt-ltb (length bytes) (bodyLength k) l)
+    cut-turn h l = rw (h, lt-ltb (length bytes) (bodyLength k) l)
 
-    whole-turn : k ≤ 9 → bodyLength k ≤ length bytes → turnAt s lines ended k bytes ≡ recordTurn s lines k (take (bodyLength k) bytes)
+    whole-turn : isKind k ≡ true → bodyLength k ≤ length bytes → turnAt s lines ended k bytes ≡ recordTurn s lines k (take (bodyLength k) bytes)
     unfolding turnAt
-    whole-turn h l = rw (le-ltb 9 k h, le-ltb (length bytes) (bodyLength k) l)
+    whole-turn h l = rw (h, le-ltb (length bytes) (bodyLength k) l)
 
 -- THE PROMISE
 
 module _ (m : List ℕ) (lines : ℕ) (ended : Bool) (input out : List ℕ) where
-  promised : {left last : List ℕ} {r : Stepped} (t : Turn) → turn (stateOf m) lines ended input (length out) ≡ t → turnOf r last (stateOf left) ≡ t
-      → last ≡ writtenOver (textOf t) out → writtenBy r ≡ length (textOf t) → writtenBy r ≤ length out → left ≡ memoryOf (planAfter t (stateOf m)) m → OpenedRight r left → StepPromise m lines ended input out left last r
+  promised : {left last : List ℕ} {r : Stepped} (t : Turn) → turn (houseOf m) lines ended input (length out) ≡ t → turnOf r last (houseOf left) ≡ t
+      → last ≡ writtenOver (textOf t) out → writtenBy r ≡ length (textOf t) → writtenBy r ≤ length out → left ≡ memoryOf (houseAfter t (houseOf m) .plan) m → OpenedRight r left → StepPromise m lines ended input out left last r
   promised t e turn-is output-is count-is inside memory-is opened-is =
       record {
         turn-is = turn-is ∙ sym e;
@@ -88,37 +85,37 @@ module _ (m : List ℕ) (lines : ℕ) (ended : Bool) (input out : List ℕ) wher
 
   pub nothing-ends : length input ≡ 0 → ended ≡ true → StepPromise m lines ended input out m out (Ends (lastOf 0 0))
   nothing-ends h e =
-      let t : turn (stateOf m) lines ended input (length out) ≡ ends [] 0 = empty-turn (stateOf m) lines ended input (length out) h ∙ rw e in
+      let t : turn (houseOf m) lines ended input (length out) ≡ ends [] 0 = empty-turn (houseOf m) lines ended input (length out) h ∙ rw e in
       promised (ends [] 0) t refl refl refl (omega arith) (sym (memory-kept m)) tt
 
   pub nothing-wants : length input ≡ 0 → ended ≡ false → StepPromise m lines ended input out m out Wants
   nothing-wants h e =
-      let t : turn (stateOf m) lines ended input (length out) ≡ wants = empty-turn (stateOf m) lines ended input (length out) h ∙ rw e in
+      let t : turn (houseOf m) lines ended input (length out) ≡ wants = empty-turn (houseOf m) lines ended input (length out) h ∙ rw e in
       promised wants t refl refl refl (omega arith) (sym (memory-kept m)) tt
 
   module _ (some-input : length input ≡ 0 → ⊥) where
     pub no-room : length out < LONGEST → StepPromise m lines ended input out m out Full
-    no-room h = promised full (full-turn (stateOf m) lines ended input (length out) some-input h) refl refl refl (omega arith) (sym (memory-kept m)) tt
+    no-room h = promised full (full-turn (houseOf m) lines ended input (length out) some-input h) refl refl refl (omega arith) (sym (memory-kept m)) tt
 
     module _ (room : LONGEST ≤ length out) where
       abbrev kind : ℕ
       kind = getD input 0 0
 
-      at-kind : turn (stateOf m) lines ended input (length out) ≡ turnAt (stateOf m) lines ended kind (drop 1 input)
-      at-kind = kind-turn (stateOf m) lines ended input (length out) some-input room
+      at-kind : turn (houseOf m) lines ended input (length out) ≡ turnAt (houseOf m) lines ended kind (drop 1 input)
+      at-kind = kind-turn (houseOf m) lines ended input (length out) some-input room
 
-      pub unknown-ends : {last : List ℕ} {n : ℕ} → 9 < kind → Writes (noLine KIND) out last n → StepPromise m lines ended input out m last (Ends (lastOf n KIND))
+      pub unknown-ends : {last : List ℕ} {n : ℕ} → isKind kind ≡ false → Writes (noLine KIND) out last n → StepPromise m lines ended input out m last (Ends (lastOf n KIND))
       unknown-ends h w =
-          promised (ends (noLine KIND) KIND) (at-kind ∙ unknown-turn (stateOf m) lines ended kind (drop 1 input) h) (ap (λ (x : List ℕ). ends x KIND) (front-is w)) (w .buffer-is) (w .count-is) (w .inside) (sym (memory-kept m)) tt
+          promised (ends (noLine KIND) KIND) (at-kind ∙ unknown-turn (houseOf m) lines ended kind (drop 1 input) h) (ap (λ (x : List ℕ). ends x KIND) (front-is w)) (w .buffer-is) (w .count-is) (w .inside) (sym (memory-kept m)) tt
 
-      module _ (known : kind ≤ 9) (n : ℕ) (n-is : n ≡ bodyLength kind) where
+      module _ (known : isKind kind ≡ true) (n : ℕ) (n-is : n ≡ bodyLength kind) where
         pub cut-step : {last : List ℕ} {r : Stepped} → length input < 1 + n → CutPromise ended out last r → StepPromise m lines ended input out m last r
         cut-step {last} {r} h p =
             let l : length (drop 1 input) < bodyLength kind = rw (length-drop 1 input, ← n-is) (omega (arith, some-input)) in
-            go ended (p .answer-is) (p .output-is) (p .inside) (at-kind ∙ cut-turn (stateOf m) lines ended kind (drop 1 input) known l)
+            go ended (p .answer-is) (p .output-is) (p .inside) (at-kind ∙ cut-turn (houseOf m) lines ended kind (drop 1 input) known l)
           where
             go : (b : Bool) → r ≡ cutAnswer b (length (noLine CUT)) → last ≡ writtenOver (cutText b) out → length (cutText b) ≤ length out
-                → turn (stateOf m) lines ended input (length out) ≡ (if b then ends (noLine CUT) CUT else wants) → StepPromise m lines ended input out m last r
+                → turn (houseOf m) lines ended input (length out) ≡ (if b then ends (noLine CUT) CUT else wants) → StepPromise m lines ended input out m last r
             go true e o i t = rw e (promised (ends (noLine CUT) CUT) t (ap (λ (x : List ℕ). ends x CUT) (rw o (take-at (noLine CUT) (drop (length (noLine CUT)) out) (length (noLine CUT)) refl))) o refl i (sym (memory-kept m)) tt)
             go false e o i t = rw e (promised wants t refl o refl i (sym (memory-kept m)) tt)
 
@@ -130,10 +127,10 @@ module _ (m : List ℕ) (lines : ℕ) (ended : Bool) (input out : List ℕ) wher
               rw same (length-take-le (bodyLength kind) (drop 1 input) (rw (length-drop 1 input, ← n-is) (omega arith)))
 
           pub whole-step : {left last : List ℕ} {r : Line}
-              → LinePromise (recordTurn (stateOf m) lines kind (take (1 + n - 1) (drop 1 input))) m out left last r → StepPromise m lines ended input out left last (Wrote r)
+              → LinePromise (recordTurn (houseOf m) lines kind (take (1 + n - 1) (drop 1 input))) m out left last r → StepPromise m lines ended input out left last (Wrote r)
           whole-step p =
               let same : 1 + n - 1 ≡ bodyLength kind = omega (arith, n-is) in
               let l : bodyLength kind ≤ length (drop 1 input) = rw (length-drop 1 input, ← n-is) (omega arith) in
-              let t : turn (stateOf m) lines ended input (length out) ≡ recordTurn (stateOf m) lines kind (take (1 + n - 1) (drop 1 input)) =
-              at-kind ∙ (whole-turn (stateOf m) lines ended kind (drop 1 input) known l ∙ ap (λ (j : ℕ). recordTurn (stateOf m) lines kind (take j (drop 1 input))) (sym same)) in
-              promised (recordTurn (stateOf m) lines kind (take (1 + n - 1) (drop 1 input))) t (p .turn-is) (p .output-is) (p .count-is) (p .inside) (p .memory-is) (p .opened-is)
+              let t : turn (houseOf m) lines ended input (length out) ≡ recordTurn (houseOf m) lines kind (take (1 + n - 1) (drop 1 input)) =
+              at-kind ∙ (whole-turn (houseOf m) lines ended kind (drop 1 input) known l ∙ ap (λ (j : ℕ). recordTurn (houseOf m) lines kind (take j (drop 1 input))) (sym same)) in
+              promised (recordTurn (houseOf m) lines kind (take (1 + n - 1) (drop 1 input))) t (p .turn-is) (p .output-is) (p .count-is) (p .inside) (p .memory-is) (p .opened-is)

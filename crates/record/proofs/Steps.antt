@@ -2,32 +2,33 @@
 use Prim.Native.Nat.{ℕ, zero, suc, _+_, _-_, _≤_, _<_}
 use mathlib.Core.Path.{_≡_, refl, ap, sym, subst, _∙_}
 use mathlib.Core.Logic.{_⊎_, inl, inr}
-use mathlib.Core.Bool.{Bool, true, false}
+use mathlib.Core.Bool.{Bool, true, false, not}
 use mathlib.Core.List.{List, [], _∷_}
 use mathlib.Core.Option.{Option, none, some}
 use native.Mathlib.Omega.{arith}
 use lib.ListN.{length, take, drop, getElem?, length-append, length-drop, length-map, List·getD-eq-default}
-use lib.Dec.{ltb, leb, eqb, leb→le}
-use borrow.Author.Tests.{ltb-false, le-ltb, leb-true, leb-false}
+use lib.Dec.{ltb, eqb}
+use borrow.Author.Tests.{ltb-true, ltb-false, le-ltb, leb-true, leb-false}
+use Rattle.meaning.specs.Sizes.{LONGEST-RECORD, RUN-BYTES}
 use Rattle.meaning.specs.Basics.{if_then_else_}
 use Rattle.meaning.specs.Refusals.{KIND, CUT}
 use Rattle.meaning.specs.Settings.{bytesNeeded}
 use Rattle.meaning.specs.Plan.{Plan, roomsIn}
-use Rattle.meaning.specs.Calls.{bodyLength}
+use Rattle.meaning.specs.Calls.{LIST, isKind, bodyLengths, bodyLength}
 use Rattle.meaning.specs.Reads.{Listed, listed, listing}
-use Rattle.meaning.specs.Records.{noLine, recordText, recordPlan, endHere}
-use Rattle.meaning.proofs.Tests.{at-below}
+use Rattle.meaning.specs.Records.{House, noLine, recordText, recordHouse, endHere}
+use Rattle.meaning.proofs.Tests.{is-true, at-below}
 use Rattle.plan.specs.Layout.{image, planOf}
 use Rattle.plan.specs.State.{soundOf, stateOf}
 use Rattle.plan.proofs.ImageLaws.{image-size, state-some, state-none}
 use Rattle.changes.specs.Promise.{memoryOf}
 use Rattle.changes.proofs.Chains.{HoldsIf, state-holds}
-use Rattle.run.specs.Runs.{RUN-BYTES, InRun}
+use Rattle.run.specs.Runs.{InRun}
 use Rattle.run.proofs.RunLaws.{memory-kept}
 use Rattle.text.specs.Writes.{LONGEST}
-use Rattle.record.specs.Turns.{Turn, wrote, wants, full, ends, LIST, listedTurn, listTurn, recordTurn, turnAt, turn, isWhole}
+use Rattle.record.specs.Turns.{Turn, wrote, wants, full, ends, listedTurn, listTurnOver, listTurn, recordTurn, turnAt, turn, isWhole}
 use Rattle.record.specs.Cuts.{Steps, line, wanting, filled, over}
-use Rattle.record.specs.Promises.{turnOf, planAfter, StepPromise, Runs, next, again, emptied, last, RunEnd, endOf, AnyRun}
+use Rattle.record.specs.Promises.{houseOf, turnOf, houseAfter, StepPromise, Runs, next, again, emptied, last, RunEnd, endOf, AnyRun}
 use Rattle.record.specs.declared.Run.{Run}
 use Rattle.record.specs.declared.Line.{Line}
 use Rattle.record.specs.declared.Last.{Last}
@@ -40,8 +41,8 @@ use Rattle.record.proofs.ReadLines.{rules-few}
 
 module _ {m input output after written : List ℕ} {lines : ℕ} {ended : Bool} {r : Stepped} (p : StepPromise m lines ended input output after written r) where
   -- the plan that the turn leaves, by the answer
-  pub left-is : after ≡ memoryOf (planAfter (turnOf r written (stateOf after)) (stateOf m)) m
-  left-is = p .memory-is ∙ ap (λ (t : Turn). memoryOf (planAfter t (stateOf m)) m) (sym (p .turn-is))
+  pub left-is : after ≡ memoryOf (houseAfter (turnOf r written (houseOf after)) (houseOf m) .plan) m
+  left-is = p .memory-is ∙ ap (λ (t : Turn). memoryOf (houseAfter t (houseOf m) .plan) m) (sym (p .turn-is))
 
 -- a plan that its memory holds leaves no fewer bytes
 no-smaller : (m after : List ℕ) (s : Option Plan) → HoldsIf (length after) s → after ≡ memoryOf s m → length m ≤ length after
@@ -70,14 +71,14 @@ module _ {m input output after written : List ℕ} {lines : ℕ} {ended : Bool} 
 
 -- A RUN OF STEPS
 
-run-steps : {m left text : List ℕ} {run : Run} {e : RunEnd} → Runs m run left text e → Steps (stateOf m) (run .lines) left text (endOf e)
+run-steps : {m left text : List ℕ} {run : Run} {e : RunEnd} → Runs m run left text e → Steps (houseOf m) (run .lines) left text (endOf e)
 run-steps (next {output = o} c p r) = line (length o) c (sym (p .turn-is)) (run-steps r)
 run-steps (again {m = m} {left = left} {output = o} {texts = texts} {run = run} {e = e} c p r) =
-    wanting (length o) c (sym (p .turn-is)) (subst (λ (x : List ℕ). Steps (stateOf x) (run .lines) left texts (endOf e)) (wants-keeps p) (run-steps r))
+    wanting (length o) c (sym (p .turn-is)) (subst (λ (x : List ℕ). Steps (houseOf x) (run .lines) left texts (endOf e)) (wants-keeps p) (run-steps r))
 run-steps (emptied {m = m} {left = left} {output = o} {texts = texts} {run = run} {e = e} c p r) =
-    filled (length o) c (sym (p .turn-is)) (subst (λ (x : List ℕ). Steps (stateOf x) (run .lines) left texts (endOf e)) (full-keeps p) (run-steps r))
+    filled (length o) c (sym (p .turn-is)) (subst (λ (x : List ℕ). Steps (houseOf x) (run .lines) left texts (endOf e)) (full-keeps p) (run-steps r))
 run-steps (last {m = m} {left = left} {output = o} {written = w} {run = run} {l = l} c p) =
-    subst (λ (x : List ℕ). Steps (stateOf m) (run .lines) left (take (l .written) w) (endHere (l .refusal) (stateOf x))) (sym (ends-keeps p))
+    subst (λ (x : List ℕ). Steps (houseOf m) (run .lines) left (take (l .written) w) (endHere (l .refusal) (houseOf x))) (sym (ends-keeps p))
     (over (length o) c (sym (p .turn-is)))
 
 -- "the meaning's text of the whole file", and its end
@@ -93,20 +94,20 @@ IsLine full = ⊥
 IsLine (ends text refusal) = ⊥
 
 -- a whole record writes a line
-record-line : (s : Option Plan) (lines k : ℕ) (body : List ℕ) → IsLine (recordTurn s lines k body)
+record-line : (s : House) (lines k : ℕ) (body : List ℕ) → IsLine (recordTurn s lines k body)
 unfolding recordTurn
 record-line s lines k body = go (eqb k LIST)
   where
-    listed : (p : Plan) (o : Option Listed) → IsLine (listedTurn p lines o)
+    listed : (p : Plan) (o : Option Listed) → IsLine (listedTurn s p lines o)
     listed p none = tt
     listed p (some l) = tt
 
-    list : (s : Option Plan) → IsLine (listTurn s lines)
+    list : (o : Option Plan) → IsLine (listTurnOver s o lines)
     list none = tt
     list (some p) = listed p (getElem? (listing p) lines)
 
-    go : (c : Bool) → IsLine (if c then listTurn s lines else wrote (recordText s k body) (1 + bodyLength k) (recordPlan s k body) 0)
-    go true = list s
+    go : (c : Bool) → IsLine (if c then listTurn s lines else wrote (recordText s k body) (1 + bodyLength k) (recordHouse s k body) 0)
+    go true = list (s .plan)
     go false = tt
 
 abbrev NotWants : Turn → Type 0
@@ -127,51 +128,53 @@ line-goes wants u = absurd u
 line-goes full u = absurd u
 line-goes (ends text refusal) u = absurd u
 
-body-most : (k : ℕ) → bodyLength k ≤ 73
+body-most : (k : ℕ) → bodyLength k < LONGEST-RECORD
 unfolding bodyLength
-body-most k = go (leb k 9) refl
+body-most k = go (ltb k (length bodyLengths)) refl
   where
-    go : (b : Bool) → leb k 9 ≡ b → bodyLength k ≤ 73
-    go true e = leb→le (bodyLength k) 73 (at-below (λ (j : ℕ). leb (bodyLength j) 73) 10 tt k (omega (arith, leb-true k 9 e)))
-    go false e = rw (List·getD-eq-default {A = ℕ} (40 ∷ 47 ∷ 47 ∷ 2 ∷ 21 ∷ 21 ∷ 19 ∷ 73 ∷ 2 ∷ 0 ∷ []) 0 {n = k} (leb-false k 9 e)) (omega arith)
+    go : (b : Bool) → ltb k (length bodyLengths) ≡ b → bodyLength k < LONGEST-RECORD
+    go true e =
+        ltb-true (bodyLength k) LONGEST-RECORD
+        (is-true (ltb (bodyLength k) LONGEST-RECORD) (at-below (λ (j : ℕ). ltb (bodyLength j) LONGEST-RECORD) (length bodyLengths) tt k (ltb-true k (length bodyLengths) e)))
+    go false e = rw (List·getD-eq-default {A = ℕ} bodyLengths 0 {n = k} (ltb-false k (length bodyLengths) e)) (omega arith)
 
--- there is a byte for a kind, and 73 for the longest body
-pub not-whole-few : (part : List ℕ) → isWhole part ≡ false → length part < 74
+-- there is a byte for a kind, and the bytes of the longest body
+pub not-whole-few : (part : List ℕ) → isWhole part ≡ false → length part < LONGEST-RECORD
 not-whole-few [] e = omega arith
 not-whole-few (k ∷ bytes) e = omega (arith, leb-false (bodyLength k) (length bytes) e, body-most k)
 
-module _ (s : Option Plan) (lines : ℕ) where
+module _ (s : House) (lines : ℕ) where
   module _ (k : ℕ) (bytes : List ℕ) where
     goes : NotWants (recordTurn s lines k (take (bodyLength k) bytes)) × NotFull (recordTurn s lines k (take (bodyLength k) bytes))
     goes = line-goes (recordTurn s lines k (take (bodyLength k) bytes)) (record-line s lines k (take (bodyLength k) bytes))
 
     kind-ended : NotWants (turnAt s lines true k bytes)
     unfolding turnAt
-    kind-ended = go (ltb 9 k) (ltb (length bytes) (bodyLength k))
+    kind-ended = go (isKind k) (ltb (length bytes) (bodyLength k))
       where
-        go : (a b : Bool) → NotWants (if a then ends (noLine KIND) KIND else if b then ends (noLine CUT) CUT else recordTurn s lines k (take (bodyLength k) bytes))
-        go true b = tt
-        go false true = tt
-        go false false = goes .0
+        go : (a b : Bool) → NotWants (if not a then ends (noLine KIND) KIND else if b then ends (noLine CUT) CUT else recordTurn s lines k (take (bodyLength k) bytes))
+        go false b = tt
+        go true true = tt
+        go true false = goes .0
 
     kind-whole : (ended : Bool) → bodyLength k ≤ length bytes → NotWants (turnAt s lines ended k bytes)
     unfolding turnAt
-    kind-whole ended h = rw (le-ltb (length bytes) (bodyLength k) h) (go (ltb 9 k))
+    kind-whole ended h = rw (le-ltb (length bytes) (bodyLength k) h) (go (isKind k))
       where
-        go : (a : Bool) → NotWants (if a then ends (noLine KIND) KIND else recordTurn s lines k (take (bodyLength k) bytes))
-        go true = tt
-        go false = goes .0
+        go : (a : Bool) → NotWants (if not a then ends (noLine KIND) KIND else recordTurn s lines k (take (bodyLength k) bytes))
+        go false = tt
+        go true = goes .0
 
     kind-not-full : (ended : Bool) → NotFull (turnAt s lines ended k bytes)
     unfolding turnAt
-    kind-not-full ended = go (ltb 9 k) (ltb (length bytes) (bodyLength k)) ended
+    kind-not-full ended = go (isKind k) (ltb (length bytes) (bodyLength k)) ended
       where
         go : (a b c : Bool)
-            → NotFull (if a then ends (noLine KIND) KIND else if b then (if c then ends (noLine CUT) CUT else wants) else recordTurn s lines k (take (bodyLength k) bytes))
-        go true b c = tt
-        go false true true = tt
-        go false true false = tt
-        go false false c = goes .1
+            → NotFull (if not a then ends (noLine KIND) KIND else if b then (if c then ends (noLine CUT) CUT else wants) else recordTurn s lines k (take (bodyLength k) bytes))
+        go false b c = tt
+        go true true true = tt
+        go true true false = tt
+        go true false c = goes .1
 
   -- the input has ended
   ended-goes : (part : List ℕ) (room : ℕ) → NotWants (turn s lines true part room)
@@ -198,25 +201,25 @@ module _ (s : Option Plan) (lines : ℕ) where
   room-goes ended (k ∷ bytes) room h = rw (le-ltb room LONGEST h) (kind-not-full k bytes ended)
 
 -- of a turn: it does not want more where the input has ended or has a whole record, and has room where a line has
-pub ended-turn-goes : (s : Option Plan) (lines : ℕ) (part : List ℕ) (room : ℕ) → turn s lines true part room ≡ wants → ⊥
+pub ended-turn-goes : (s : House) (lines : ℕ) (part : List ℕ) (room : ℕ) → turn s lines true part room ≡ wants → ⊥
 ended-turn-goes s lines part room e = subst NotWants e (ended-goes s lines part room)
 
-pub whole-turn-goes : (s : Option Plan) (lines : ℕ) (ended : Bool) (part : List ℕ) (room : ℕ) → isWhole part ≡ true → turn s lines ended part room ≡ wants → ⊥
+pub whole-turn-goes : (s : House) (lines : ℕ) (ended : Bool) (part : List ℕ) (room : ℕ) → isWhole part ≡ true → turn s lines ended part room ≡ wants → ⊥
 whole-turn-goes s lines ended part room h e = subst NotWants e (whole-goes s lines ended part room h)
 
-pub room-turn-goes : (s : Option Plan) (lines : ℕ) (ended : Bool) (part : List ℕ) (room : ℕ) → LONGEST ≤ room → turn s lines ended part room ≡ full → ⊥
+pub room-turn-goes : (s : House) (lines : ℕ) (ended : Bool) (part : List ℕ) (room : ℕ) → LONGEST ≤ room → turn s lines ended part room ≡ full → ⊥
 room-turn-goes s lines ended part room h e = subst NotFull e (room-goes s lines ended part room h)
 
 -- the same of a step
 module _ {m input output after written : List ℕ} {lines : ℕ} {ended : Bool} where
   pub ended-no-wants : ended ≡ true → StepPromise m lines ended input output after written Wants → ⊥
-  ended-no-wants e p = ended-turn-goes (stateOf m) lines input (length output) (rw e at (sym (p .turn-is)))
+  ended-no-wants e p = ended-turn-goes (houseOf m) lines input (length output) (rw e at (sym (p .turn-is)))
 
   pub whole-no-wants : isWhole input ≡ true → StepPromise m lines ended input output after written Wants → ⊥
-  whole-no-wants h p = whole-turn-goes (stateOf m) lines ended input (length output) h (sym (p .turn-is))
+  whole-no-wants h p = whole-turn-goes (houseOf m) lines ended input (length output) h (sym (p .turn-is))
 
   pub room-no-full : LONGEST ≤ length output → StepPromise m lines ended input output after written Full → ⊥
-  room-no-full h p = room-turn-goes (stateOf m) lines ended input (length output) h (sym (p .turn-is))
+  room-no-full h p = room-turn-goes (houseOf m) lines ended input (length output) h (sym (p .turn-is))
 
 -- WHAT A LINE TAKES: a byte at least, or the listing goes on
 
@@ -224,8 +227,8 @@ abbrev linesIn : Option Plan → ℕ
 linesIn none = 0
 linesIn (some p) = length (listing p)
 
-abbrev Takes : Option Plan → ℕ → ℕ → Turn → Type 0
-Takes s lines size (wrote text taken t more) = (taken ≤ size) × ((1 ≤ taken) ⊎ ((more ≡ lines + 1) × (lines < linesIn s)))
+abbrev Takes : House → ℕ → ℕ → Turn → Type 0
+Takes s lines size (wrote text taken t more) = (taken ≤ size) × ((1 ≤ taken) ⊎ ((more ≡ lines + 1) × (lines < linesIn (s .plan))))
 Takes s lines size wants = Unit {0}
 Takes s lines size full = Unit {0}
 Takes s lines size (ends text refusal) = Unit {0}
@@ -235,27 +238,30 @@ inside [] k x e = absurd (let z : _≡_ {A = ℕ} 0 1 = cc in omega arith)
 inside (y ∷ ys) zero x e = omega arith
 inside (y ∷ ys) (suc k) x e = omega (arith, inside ys k x e)
 
-list-takes : (s : Option Plan) (lines size : ℕ) → 1 ≤ size → Takes s lines size (listTurn s lines)
-list-takes none lines size h = (h, inl (omega arith))
-list-takes (some p) lines size h = go (getElem? (listing p) lines) refl
+list-takes : (s : House) (lines size : ℕ) → 1 ≤ size → Takes s lines size (listTurn s lines)
+list-takes s lines size h = each (s .plan) refl
   where
-    go : (o : Option Listed) → getElem? (listing p) lines ≡ o → Takes (some p) lines size (listedTurn p lines o)
-    go none e = (h, inl (omega arith))
-    go (some l) e = (omega arith, inr (refl, inside (listing p) lines l e))
+    go : (p : Plan) → s .plan ≡ some p → (o : Option Listed) → getElem? (listing p) lines ≡ o → Takes s lines size (listedTurn s p lines o)
+    go p is none e = (h, inl (omega arith))
+    go p is (some l) e = (omega arith, inr (refl, rw is (inside (listing p) lines l e)))
 
-module _ (s : Option Plan) (lines : ℕ) (ended : Bool) where
+    each : (o : Option Plan) → s .plan ≡ o → Takes s lines size (listTurnOver s o lines)
+    each none is = (h, inl (omega arith))
+    each (some p) is = go p is (getElem? (listing p) lines) refl
+
+module _ (s : House) (lines : ℕ) (ended : Bool) where
   kind-takes : (k : ℕ) (bytes : List ℕ) → Takes s lines (suc (length bytes)) (turnAt s lines ended k bytes)
   unfolding turnAt recordTurn
-  kind-takes k bytes = go (ltb 9 k) (ltb (length bytes) (bodyLength k)) ended (eqb k LIST) refl
+  kind-takes k bytes = go (isKind k) (ltb (length bytes) (bodyLength k)) ended (eqb k LIST) refl
     where
       go : (a b c d : Bool) → ltb (length bytes) (bodyLength k) ≡ b
-          → Takes s lines (suc (length bytes)) (if a then ends (noLine KIND) KIND else if b then (if c then ends (noLine CUT) CUT else wants) else
-          if d then listTurn s lines else wrote (recordText s k (take (bodyLength k) bytes)) (1 + bodyLength k) (recordPlan s k (take (bodyLength k) bytes)) 0)
-      go true b c d e = tt
-      go false true true d e = tt
-      go false true false d e = tt
-      go false false c true e = list-takes s lines (suc (length bytes)) (omega arith)
-      go false false c false e = (omega (arith, ltb-false (length bytes) (bodyLength k) e), inl (omega arith))
+          → Takes s lines (suc (length bytes)) (if not a then ends (noLine KIND) KIND else if b then (if c then ends (noLine CUT) CUT else wants) else
+          if d then listTurn s lines else wrote (recordText s k (take (bodyLength k) bytes)) (1 + bodyLength k) (recordHouse s k (take (bodyLength k) bytes)) 0)
+      go false b c d e = tt
+      go true true true d e = tt
+      go true true false d e = tt
+      go true false c true e = list-takes s lines (suc (length bytes)) (omega arith)
+      go true false c false e = (omega (arith, ltb-false (length bytes) (bodyLength k) e), inl (omega arith))
 
   turn-takes : (part : List ℕ) (room : ℕ) → Takes s lines (length part) (turn s lines ended part room)
   turn-takes [] room = go ended
@@ -278,8 +284,8 @@ lines-most m = go (soundOf m) refl
     go false e = rw (state-none m e) (omega arith)
 
 module _ {m input output after written : List ℕ} {lines : ℕ} {ended : Bool} {l : Line} (p : StepPromise m lines ended input output after written (Wrote l)) where
-  takes : Takes (stateOf m) lines (length input) (turnOf (Wrote l) written (stateOf after))
-  takes = subst (Takes (stateOf m) lines (length input)) (sym (p .turn-is)) (turn-takes (stateOf m) lines ended input (length output))
+  takes : Takes (houseOf m) lines (length input) (turnOf (Wrote l) written (houseOf after))
+  takes = subst (Takes (houseOf m) lines (length input)) (sym (p .turn-is)) (turn-takes (houseOf m) lines ended input (length output))
 
   pub taken-inside : l .taken ≤ length input
   taken-inside = takes .0

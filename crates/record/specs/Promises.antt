@@ -3,15 +3,16 @@ use Prim.Native.Nat.{ℕ, _+_, _≤_, _<_}
 use mathlib.Core.Path.{_≡_}
 use mathlib.Core.Bool.{Bool, false, _||_}
 use mathlib.Core.List.{List, [], _++_}
-use mathlib.Core.Option.{Option}
 use lib.ListN.{length, take, drop}
+use lib.Dec.{eqb}
+use Rattle.meaning.specs.Sizes.{RUN-BYTES}
 use Rattle.meaning.specs.Basics.{if_then_else_, isZero, writtenOver}
 use Rattle.meaning.specs.Refusals.{CUT}
-use Rattle.meaning.specs.Plan.{Plan}
-use Rattle.meaning.specs.Records.{noLine, fileText, End, fileEnd}
+use Rattle.meaning.specs.Calls.{OPEN-PLAN}
+use Rattle.meaning.specs.Records.{House, noLine, fileText, End, fileEnd}
 use Rattle.plan.specs.State.{soundOf, stateOf}
 use Rattle.changes.specs.Promise.{memoryOf}
-use Rattle.run.specs.Runs.{RUN-BYTES, InRun}
+use Rattle.run.specs.Runs.{InRun}
 use Rattle.record.specs.Turns.{Turn, wrote, wants, full, ends, turn}
 use Rattle.record.specs.Cuts.{Cut}
 use Rattle.record.specs.declared.Run.{Run}
@@ -22,12 +23,16 @@ use Rattle.record.specs.declared.Stepped.the-variants.{Wrote, Wants, Ful
 use Rattle.record.specs.declared.AnyStep.{AnyStep}
 use Rattle.record.specs.declared.AnyStep.the-variants.{Small, Took}
 
+-- the state of a run whose plan lies in a memory
+abbrev pub houseOf : List ℕ → House
+houseOf m = record { plan = stateOf m }
+
 -- a line, and what it leaves
 abbrev pub lineOf : ℕ → ℕ → Bool → ℕ → Line
 lineOf taken written opened lines = record { taken = taken; written = written; run = record { opened = opened; lines = lines } }
 
--- what a step's answer says: the text stands at the front of the output, and the plan in the memory
-abbrev pub turnOf : Stepped → List ℕ → Option Plan → Turn
+-- what a step's answer says: the text stands at the front of the output; and the state that the memory holds
+abbrev pub turnOf : Stepped → List ℕ → House → Turn
 turnOf (Wrote l) output s = wrote (take (l .written) output) (l .taken) s (l .run .lines)
 turnOf Wants output s = wants
 turnOf Full output s = full
@@ -40,18 +45,18 @@ writtenBy Wants = 0
 writtenBy Full = 0
 writtenBy (Ends e) = e .written
 
--- what a turn writes, and the plan that it leaves
+-- what a turn writes, and the state that it leaves
 abbrev pub textOf : Turn → List ℕ
 textOf (wrote text taken s lines) = text
 textOf wants = []
 textOf full = []
 textOf (ends text refusal) = text
 
-abbrev pub planAfter : Turn → Option Plan → Option Plan
-planAfter (wrote text taken t lines) s = t
-planAfter wants s = s
-planAfter full s = s
-planAfter (ends text refusal) s = s
+abbrev pub houseAfter : Turn → House → House
+houseAfter (wrote text taken t lines) s = t
+houseAfter wants s = s
+houseAfter full s = s
+houseAfter (ends text refusal) s = s
 
 -- the flag that an answer hands on is right
 abbrev pub OpenedRight : Stepped → List ℕ → Type 0
@@ -62,7 +67,7 @@ OpenedRight (Ends e) m = Unit {0}
 
 -- THE PROMISE OF A LINE that leaves the plan as it was: the turn's text, and what the line hands on
 pub record ReadPromise (t : Turn) (m : List ℕ) (run : Run) (output left : List ℕ) (r : Line) : Type 0 where
-  pub turn-is : turnOf (Wrote r) left (stateOf m) ≡ t
+  pub turn-is : turnOf (Wrote r) left (houseOf m) ≡ t
   pub output-is : left ≡ writtenOver (textOf t) output
   pub count-is : r .written ≡ length (textOf t)
   pub inside : r .written ≤ length output
@@ -70,16 +75,16 @@ pub record ReadPromise (t : Turn) (m : List ℕ) (run : Run) (output left : List
 
 -- and of any line: the plan's memory as the turn leaves the plan
 pub record LinePromise (t : Turn) (m output after left : List ℕ) (r : Line) : Type 0 where
-  pub turn-is : turnOf (Wrote r) left (stateOf after) ≡ t
+  pub turn-is : turnOf (Wrote r) left (houseOf after) ≡ t
   pub output-is : left ≡ writtenOver (textOf t) output
   pub count-is : r .written ≡ length (textOf t)
   pub inside : r .written ≤ length output
-  pub memory-is : after ≡ memoryOf (planAfter t (stateOf m)) m
+  pub memory-is : after ≡ memoryOf (houseAfter t (houseOf m) .plan) m
   pub opened-is : soundOf after ≡ r .run .opened
 
 -- whether a plan is there after a call of a kind, answered with a number
 abbrev pub openedAfter : Bool → ℕ → ℕ → Bool
-openedAfter opened k number = if isZero number then opened || isZero k else opened
+openedAfter opened k number = if isZero number then opened || eqb k OPEN-PLAN else opened
 
 -- the last line of so many bytes, and the refusal that it writes
 abbrev pub lastOf : ℕ → ℕ → Last
@@ -100,11 +105,11 @@ pub record CutPromise (ended : Bool) (output left : List ℕ) (r : Stepped) : Ty
 -- THE PROMISE OF A STEP: its answer is the turn's, with the text at the front of the output, the bytes behind it as they were, and the plan's memory as the
 -- turn leaves the plan
 pub record StepPromise (m : List ℕ) (lines : ℕ) (ended : Bool) (input output after left : List ℕ) (r : Stepped) : Type 0 where
-  pub turn-is : turnOf r left (stateOf after) ≡ turn (stateOf m) lines ended input (length output)
-  pub output-is : left ≡ writtenOver (textOf (turn (stateOf m) lines ended input (length output))) output
-  pub count-is : writtenBy r ≡ length (textOf (turn (stateOf m) lines ended input (length output)))
+  pub turn-is : turnOf r left (houseOf after) ≡ turn (houseOf m) lines ended input (length output)
+  pub output-is : left ≡ writtenOver (textOf (turn (houseOf m) lines ended input (length output))) output
+  pub count-is : writtenBy r ≡ length (textOf (turn (houseOf m) lines ended input (length output)))
   pub inside : writtenBy r ≤ length output
-  pub memory-is : after ≡ memoryOf (planAfter (turn (stateOf m) lines ended input (length output)) (stateOf m)) m
+  pub memory-is : after ≡ memoryOf (houseAfter (turn (houseOf m) lines ended input (length output)) (houseOf m) .plan) m
   pub opened-is : OpenedRight r after
 
 -- OF A STEP OVER ANY MEMORY: one that is too small for a run's plan has its own answer, and nothing is changed
@@ -124,9 +129,9 @@ runEndHere refusal m = record { refusal = refusal; place = 0; memory = m }
 abbrev pub runEndBehind : ℕ → RunEnd → RunEnd
 runEndBehind n e = record { refusal = e .refusal; place = n + e .place; memory = e .memory }
 
--- in the meaning's words: by the plan that the memory holds
+-- in the meaning's words: by the state that the memory holds
 abbrev pub endOf : RunEnd → End
-endOf e = record { refusal = e .refusal; place = e .place; plan = stateOf (e .memory) }
+endOf e = record { refusal = e .refusal; place = e .place; house = houseOf (e .memory) }
 
 -- RUNS OF STEPS on one memory, each getting it as the last one left it, with a part of what is left of the input and an output of its own: the memory before,
 -- the state handed on, what is left of the input, the joined text, and the end

@@ -1,8 +1,10 @@
 // The house records of an input that comes in parts: a step takes a record, or a line of a listing, and writes its line.
 ghost use mathlib.Core.Path.{_≡_};
+ghost use mathlib.Core.Bool.{true, false};
 ghost use Prim.Native.Nat.{_≤_};
 ghost use lib.ListN.{length};
-ghost use Rattle.meaning.specs.Calls.{bodyLength};
+ghost use Rattle.meaning.specs.Sizes.{SET-NUMBER-BYTES, NUMBER-BYTES, DIGIT-ROOM};
+ghost use Rattle.meaning.specs.Calls.{isKind, isCall, bodyLength};
 ghost use Rattle.meaning.specs.Records.{numberLine, refsLine};
 ghost use Rattle.meaning.specs.Answer.{answer};
 ghost use Rattle.meaning.specs.Answers.{numberOfProvisioned};
@@ -14,35 +16,25 @@ ghost use Rattle.text.specs.Writes.{LONGEST, Writes};
 ghost use Rattle.run.specs.Runs.{InRun};
 ghost use Rattle.blocks.specs.Places.{maskTable};
 ghost use Rattle.record.specs.Turns.{listTurn, recordTurn, isWhole};
-ghost use Rattle.record.specs.Promises.{lineOf, ReadPromise, LinePromise, openedAfter, CutPromise, StepPromise, AnyStepPromise};
+ghost use Rattle.record.specs.Promises.{houseOf, lineOf, ReadPromise, LinePromise, openedAfter, CutPromise, StepPromise, AnyStepPromise};
 use meaning::Provisioned;
 use meaning::RulePlace;
+use meaning::kinds;
+use meaning::refusals::ACCEPTED;
+use meaning::refusals::CUT;
+use meaning::refusals::KIND;
+use meaning::refusals::PLAN;
+use meaning::refusals::RANGE;
+use meaning::sizes::NUMBER_BYTES;
+use meaning::sizes::RUN_BYTES;
+use meaning::sizes::SET_NUMBER_BYTES;
 
-// The refusals that are written here.
-const KIND: u8 = 2;
+// The bytes that a record of a kind takes: its kind, and its body.
+const NUMBER_RECORD: usize = 1 + NUMBER_BYTES;
 
-const CUT: u8 = 1;
+const REFS_RECORD: usize = 1 + SET_NUMBER_BYTES;
 
-const PLAN: u8 = 3;
-
-const RANGE: u8 = 5;
-
-// The kinds of records, and the bytes that a record of a kind takes.
-const OPEN: u8 = 0;
-
-const LAST_CALL: u8 = 6;
-
-const NUMBER: u8 = 7;
-
-const NUMBER_BYTES: usize = 74;
-
-const REFS: u8 = 8;
-
-const REFS_BYTES: usize = 3;
-
-const LIST_BYTES: usize = 1;
-
-const LAST_KIND: u8 = 9;
+const LIST_RECORD: usize = 1;
 
 // The state of a run beside its plan: whether an opening was accepted, and how many lines of a listing are written already.
 pub struct Run {
@@ -98,7 +90,7 @@ fn line_of(taken: usize, written: usize, opened: bool, lines: u16) -> Line
 // The line of a number in range, over a plan that is known to be sound.
 fn answer_line(plan: &[u8], body: &[u8], output: &mut [u8]) -> usize
     requires { ⌜ Known (now plan) (now body) × (LONGEST ≤ length (now output)) ⌝ }
-    ensures { λ r. ⌜ Writes (numberLine (answer (stateOf (now (plan .entry))) 35 (now (body .entry)))) (now (output .entry)) (now (output .exit)) r ⌝ }
+    ensures { λ r. ⌜ Writes (numberLine (answer (stateOf (now (plan .entry))) DIGIT-ROOM (now (body .entry)))) (now (output .entry)) (now (output .exit)) r ⌝ }
 {
     let mut digits = [0u8; number::ANSWER_BYTES];
     let a = number::answer_held(plan, body, &mut digits);
@@ -108,8 +100,8 @@ fn answer_line(plan: &[u8], body: &[u8], output: &mut [u8]) -> usize
 
 // The line of a number.
 fn number_record(masks: &[u8], plan: &[u8], opened: bool, body: &[u8], output: &mut [u8]) -> usize
-    requires { ⌜ (soundOf (now plan) ≡ opened) × (length (now body) ≡ 73) × (LONGEST ≤ length (now output)) × (now masks ≡ maskTable) ⌝ }
-    ensures { λ r. ⌜ Writes (numberLine (answer (stateOf (now (plan .entry))) 35 (now (body .entry)))) (now (output .entry)) (now (output .exit)) r ⌝ }
+    requires { ⌜ (soundOf (now plan) ≡ opened) × (length (now body) ≡ NUMBER-BYTES) × (LONGEST ≤ length (now output)) × (now masks ≡ maskTable) ⌝ }
+    ensures { λ r. ⌜ Writes (numberLine (answer (stateOf (now (plan .entry))) DIGIT-ROOM (now (body .entry)))) (now (output .entry)) (now (output .exit)) r ⌝ }
 {
     if !opened {
         return text::no_line(PLAN, output);
@@ -122,7 +114,7 @@ fn number_record(masks: &[u8], plan: &[u8], opened: bool, body: &[u8], output: &
 
 // The line of a count of rules naming a set.
 fn refs_record(plan: &[u8], opened: bool, body: &[u8], output: &mut [u8]) -> usize
-    requires { ⌜ (soundOf (now plan) ≡ opened) × (length (now body) ≡ 2) × (LONGEST ≤ length (now output)) ⌝ }
+    requires { ⌜ (soundOf (now plan) ≡ opened) × (length (now body) ≡ SET-NUMBER-BYTES) × (LONGEST ≤ length (now output)) ⌝ }
     ensures { λ r. ⌜ Writes (refsLine (referrerCount (stateOf (now (plan .entry))) (word (now (body .entry)) 0))) (now (output .entry)) (now (output .exit)) r ⌝ }
 {
     if !opened {
@@ -139,16 +131,16 @@ fn refs_record(plan: &[u8], opened: bool, body: &[u8], output: &mut [u8]) -> usi
 // The next line of a listing.
 fn list_record(plan: &[u8], run: Run, output: &mut [u8]) -> Line
     requires { ⌜ (soundOf (now plan) ≡ run .opened) × (LONGEST ≤ length (now output)) ⌝ }
-    ensures { λ r. ⌜ ReadPromise (listTurn (stateOf (now (plan .entry))) (run .lines)) (now (plan .entry)) run (now (output .entry)) (now (output .exit)) r ⌝ }
+    ensures { λ r. ⌜ ReadPromise (listTurn (houseOf (now (plan .entry))) (run .lines)) (now (plan .entry)) run (now (output .entry)) (now (output .exit)) r ⌝ }
 {
     if !run.opened {
         let refused = text::no_line(PLAN, output);
-        return line_of(LIST_BYTES, refused, false, 0);
+        return line_of(LIST_RECORD, refused, false, 0);
     }
     let count = listing::count_known(plan);
     if count <= run.lines as usize {
         let ended = text::end_line(count, output);
-        return line_of(LIST_BYTES, ended, true, 0);
+        return line_of(LIST_RECORD, ended, true, 0);
     }
     let written = text::listed_line(listing::rule_known(plan, RulePlace(run.lines)), output);
     line_of(0, written, true, run.lines + 1)
@@ -156,7 +148,7 @@ fn list_record(plan: &[u8], run: Run, output: &mut [u8]) -> Line
 
 // A RECORD
 
-// A record that reads the plan: kinds 7, 8 and 9.
+// A record that reads the plan.
 fn read_record(
     masks: &[u8],
     plan: &[u8],
@@ -165,16 +157,16 @@ fn read_record(
     body: &[u8],
     output: &mut [u8],
 ) -> Line
-    requires { ⌜ (soundOf (now plan) ≡ run .opened) × (7 ≤ kind) × (kind ≤ 9) × (length (now body) ≡ bodyLength kind) × (LONGEST ≤ length (now output)) × (now masks ≡ maskTable) ⌝ }
-    ensures { λ r. ⌜ ReadPromise (recordTurn (stateOf (now (plan .entry))) (run .lines) kind (now (body .entry))) (now (plan .entry)) run (now (output .entry)) (now (output .exit)) r ⌝ }
+    requires { ⌜ (soundOf (now plan) ≡ run .opened) × (isCall kind ≡ false) × (isKind kind ≡ true) × (length (now body) ≡ bodyLength kind) × (LONGEST ≤ length (now output)) × (now masks ≡ maskTable) ⌝ }
+    ensures { λ r. ⌜ ReadPromise (recordTurn (houseOf (now (plan .entry))) (run .lines) kind (now (body .entry))) (now (plan .entry)) run (now (output .entry)) (now (output .exit)) r ⌝ }
 {
-    if kind == NUMBER {
+    if kind == kinds::NUMBER {
         let answered = number_record(masks, plan, run.opened, body, output);
-        return line_of(NUMBER_BYTES, answered, run.opened, 0);
+        return line_of(NUMBER_RECORD, answered, run.opened, 0);
     }
-    if kind == REFS {
+    if kind == kinds::REFS {
         let counted = refs_record(plan, run.opened, body, output);
-        return line_of(REFS_BYTES, counted, run.opened, 0);
+        return line_of(REFS_RECORD, counted, run.opened, 0);
     }
     list_record(plan, run, output)
 }
@@ -183,19 +175,19 @@ fn read_record(
 fn opened_after(opened: bool, kind: u8, answer: Provisioned) -> bool
     ensures { λ r. ⌜ r ≡ openedAfter opened kind (numberOfProvisioned answer) ⌝ }
 {
-    if answer.number() != 0 {
+    if answer.number() != ACCEPTED {
         return opened;
     }
-    if kind == OPEN {
+    if kind == kinds::OPEN_PLAN {
         return true;
     }
     opened
 }
 
-// A record that opens or provisions: kinds 0 to 6.
+// A record that opens or provisions.
 fn call_record(plan: &mut [u8], run: Run, kind: u8, body: &[u8], output: &mut [u8]) -> Line
-    requires { ⌜ InRun (now plan) (run .opened) × (kind ≤ 6) × (length (now body) ≡ bodyLength kind) × (LONGEST ≤ length (now output)) ⌝ }
-    ensures { λ r. ⌜ LinePromise (recordTurn (stateOf (now (plan .entry))) (run .lines) kind (now (body .entry))) (now (plan .entry)) (now (output .entry)) (now (plan .exit)) (now (output .exit)) r ⌝ }
+    requires { ⌜ InRun (now plan) (run .opened) × (isCall kind ≡ true) × (length (now body) ≡ bodyLength kind) × (LONGEST ≤ length (now output)) ⌝ }
+    ensures { λ r. ⌜ LinePromise (recordTurn (houseOf (now (plan .entry))) (run .lines) kind (now (body .entry))) (now (plan .entry)) (now (output .entry)) (now (plan .exit)) (now (output .exit)) r ⌝ }
 {
     let answer = run::provision(plan, run.opened, kind, body);
     let written = text::accepted_line(answer, output);
@@ -216,10 +208,10 @@ fn whole_record(
     body: &[u8],
     output: &mut [u8],
 ) -> Line
-    requires { ⌜ InRun (now plan) (run .opened) × (kind ≤ 9) × (length (now body) ≡ bodyLength kind) × (LONGEST ≤ length (now output)) × (now masks ≡ maskTable) ⌝ }
-    ensures { λ r. ⌜ LinePromise (recordTurn (stateOf (now (plan .entry))) (run .lines) kind (now (body .entry))) (now (plan .entry)) (now (output .entry)) (now (plan .exit)) (now (output .exit)) r ⌝ }
+    requires { ⌜ InRun (now plan) (run .opened) × (isKind kind ≡ true) × (length (now body) ≡ bodyLength kind) × (LONGEST ≤ length (now output)) × (now masks ≡ maskTable) ⌝ }
+    ensures { λ r. ⌜ LinePromise (recordTurn (houseOf (now (plan .entry))) (run .lines) kind (now (body .entry))) (now (plan .entry)) (now (output .entry)) (now (plan .exit)) (now (output .exit)) r ⌝ }
 {
-    if kind <= LAST_CALL {
+    if changes::is_call(kind) {
         return call_record(plan, run, kind, body, output);
     }
     read_record(masks, plan, run, kind, body, output)
@@ -277,7 +269,7 @@ pub fn step_by(
         return Stepped::Full;
     }
     let kind = input[0];
-    if LAST_KIND < kind {
+    if !changes::is_kind(kind) {
         return Stepped::Ends(Last {
             written: text::no_line(KIND, output),
             refusal: KIND,
@@ -310,7 +302,7 @@ pub fn step_known(
 pub fn step(plan: &mut [u8], lines: u16, ended: bool, input: &[u8], output: &mut [u8]) -> AnyStep
     ensures { λ r. ⌜ AnyStepPromise (now (plan .entry)) lines ended (now (input .entry)) (now (output .entry)) (now (plan .exit)) (now (output .exit)) r ⌝ }
 {
-    if plan.len() < run::RUN_BYTES {
+    if plan.len() < RUN_BYTES {
         return AnyStep::Small;
     }
     let run = Run {

@@ -9,6 +9,7 @@ use lib.ListN.{length, take}
 use lib.Seq.{length-take-le}
 use lib.Dec.{T, eqb}
 use borrow.Author.Tests.{eqb-false}
+use Rattle.meaning.specs.Sizes.{FILTER-BYTES, RULE-BODY}
 use Rattle.meaning.specs.Basics.{any, isSome}
 use Rattle.meaning.specs.Refusals.{firstOf}
 use Rattle.meaning.specs.Filters.{Filter, filterOf, filterInRange}
@@ -46,7 +47,7 @@ module _ (m b : List ℕ) (s : soundOf m ≡ true) where
 
   -- REMOVING
 
-  module _ (size : length b ≡ 19) (e : firstOf (removeRuleLines (planOf m) b) ≡ 0) where
+  module _ (size : length b ≡ FILTER-BYTES) (e : firstOf (removeRuleLines (planOf m) b) ≡ 0) where
     pub removing-code : FilterBytes (codeGiven b)
     unfolding removeRuleLines
     removing-code = code-bytes b (omega arith) (is-true (filterInRange (codeGiven b)) (not-not (filterInRange (codeGiven b)) (passed-at 0 (removeRuleLines (planOf m) b) tt e)))
@@ -70,7 +71,7 @@ module _ (m b : List ℕ) (s : soundOf m ≡ true) where
 
   -- CHANGING
 
-  module _ (size : length b ≡ 21) (e : firstOf (changeRuleLines (planOf m) b) ≡ 0) where
+  module _ (size : length b ≡ RULE-BODY) (e : firstOf (changeRuleLines (planOf m) b) ≡ 0) where
     pub changing-code : FilterBytes (codeGiven b)
     unfolding changeRuleLines
     changing-code =
@@ -98,7 +99,7 @@ module _ (m b : List ℕ) (s : soundOf m ≡ true) where
 
   -- ADDING
 
-  module _ (size : length b ≡ 21) (e : firstOf (addRuleLines (planOf m) b) ≡ 0) where
+  module _ (size : length b ≡ RULE-BODY) (e : firstOf (addRuleLines (planOf m) b) ≡ 0) where
     pub adding-code : FilterBytes (codeGiven b)
     unfolding addRuleLines
     adding-code =
@@ -110,8 +111,8 @@ module _ (m b : List ℕ) (s : soundOf m ≡ true) where
     adding-absent =
         placed-absent f (planOf m .rules) (in-order m s) (is-false (holdsFilter (planOf m) (codeGiven b)) (passed-at 1 (addRuleLines (planOf m) b) tt e))
 
-    pub adding-size : length (codeGiven b) ≡ 19
-    adding-size = length-take-le 19 b (omega arith)
+    pub adding-size : length (codeGiven b) ≡ FILTER-BYTES
+    adding-size = length-take-le FILTER-BYTES b (omega arith)
 
     pub adding-below : ruleCount m < ruleRoom m
     unfolding addRuleLines planOf

@@ -9,6 +9,7 @@ use lib.ListN.{length, take}
 use lib.Seq.{take-take, length-take-le}
 use lib.Dec.{eqb}
 use borrow.Author.Tests.{not-true, not-false}
+use Rattle.meaning.specs.Sizes.{FILTER-BYTES}
 use Rattle.meaning.specs.Basics.{if_then_else_, isSome}
 use Rattle.meaning.specs.Refusals.{RANGE, TAKEN, ABSENT, MISFIT, FULL, firstOf}
 use Rattle.meaning.specs.Filters.{filterOf, filterInRange}
@@ -121,17 +122,17 @@ pub said : {r test t : Bool} → r ≡ test → r ≡ t → test ≡ t
 said e q = sym e ∙ q
 
 -- a filter in range at the front of a body
-pub code-bytes : (b : List ℕ) → 19 ≤ length b → filterInRange (codeGiven b) ≡ true → FilterBytes (codeGiven b)
+pub code-bytes : (b : List ℕ) → FILTER-BYTES ≤ length b → filterInRange (codeGiven b) ≡ true → FilterBytes (codeGiven b)
 code-bytes b h e =
-    let size : length (take 19 b) ≡ 19 = length-take-le 19 b h in
-    let same : take 19 (take 19 b) ≡ take 19 b = take-take 19 19 b (omega arith) in
-    range-bytes (take 19 b) (omega arith) (true-is _ (ap filterInRange same ∙ e))
+    let size : length (take FILTER-BYTES b) ≡ FILTER-BYTES = length-take-le FILTER-BYTES b h in
+    let same : take FILTER-BYTES (take FILTER-BYTES b) ≡ take FILTER-BYTES b = take-take FILTER-BYTES FILTER-BYTES b (omega arith) in
+    range-bytes (take FILTER-BYTES b) (omega arith) (true-is _ (ap filterInRange same ∙ e))
 
 -- the count of rules and the room for them as read
 pub full-said : (m : List ℕ) (n k : ℕ) → n ≡ ruleCount m → k ≡ ruleRoom m → eqb (length (planOf m .rules)) ((roomsIn (planOf m)) .rules) ≡ eqb n k
 unfolding planOf
 full-said m n k a e = ap₂ eqb (sym (rule-count-is m) ∙ sym a) (sym e)
 
--- the test of a filter looks at its 19 bytes
-pub range-twice : (b : List ℕ) → filterInRange (take 19 (take 19 b)) ≡ filterInRange (codeGiven b)
-range-twice b = ap filterInRange (take-take 19 19 b (omega arith))
+-- the test of a filter looks at its own bytes
+pub range-twice : (b : List ℕ) → filterInRange (take FILTER-BYTES (take FILTER-BYTES b)) ≡ filterInRange (codeGiven b)
+range-twice b = ap filterInRange (take-take FILTER-BYTES FILTER-BYTES b (omega arith))

@@ -3,6 +3,7 @@
 ghost use mathlib.Core.Path.{_≡_};
 ghost use mathlib.Core.Bool.{true, false};
 ghost use lib.ListN.{length};
+ghost use Rattle.meaning.specs.Sizes.{FILTER-BYTES, RULE-BODY};
 ghost use Rattle.meaning.specs.Basics.{any};
 ghost use Rattle.meaning.specs.Refusals.{firstOf};
 ghost use Rattle.meaning.specs.Filters.{filterOf};
@@ -19,6 +20,8 @@ use meaning::FilterPlace;
 use meaning::Provisioned;
 use meaning::Refusal;
 use meaning::RulePlace;
+use meaning::sizes::FILTER_BYTES;
+use meaning::sizes::SET_AT;
 
 // Whether some rule has the filter.
 fn holds_filter(plan: &[u8], code: &[u8]) -> bool
@@ -45,23 +48,23 @@ fn place_of(plan: &[u8], code: &[u8]) -> RulePlace
 }
 
 fn add_rule_refusal(plan: &[u8], body: &[u8]) -> Provisioned
-    requires { ⌜ (soundOf (now plan) ≡ true) × (length (now body) ≡ 21) ⌝ }
+    requires { ⌜ (soundOf (now plan) ≡ true) × (length (now body) ≡ RULE-BODY) ⌝ }
     ensures { λ r. ⌜ numberOfProvisioned r ≡ firstOf (addRuleLines (planOf (now (plan .entry))) (now (body .entry))) ⌝ }
 {
-    let set = changes::set_number(body, 19);
+    let set = changes::set_number(body, SET_AT);
     if changes::is_over_room(plan, set) {
         return Provisioned::Refused(Refusal::Range);
     }
-    if !filter::filter_in_range(&body[0..19]) {
+    if !filter::filter_in_range(&body[0..FILTER_BYTES]) {
         return Provisioned::Refused(Refusal::Range);
     }
-    if holds_filter(plan, &body[0..19]) {
+    if holds_filter(plan, &body[0..FILTER_BYTES]) {
         return Provisioned::Refused(Refusal::Taken);
     }
     if !plan::is_held(plan, set) {
         return Provisioned::Refused(Refusal::Absent);
     }
-    if !changes::fits(&body[0..19], plan::content(plan, set)) {
+    if !changes::fits(&body[0..FILTER_BYTES], plan::content(plan, set)) {
         return Provisioned::Refused(Refusal::Misfit);
     }
     if plan::rule_count(plan) == plan::rule_room(plan) {
@@ -71,77 +74,82 @@ fn add_rule_refusal(plan: &[u8], body: &[u8]) -> Provisioned
 }
 
 pub fn add_rule_known(plan: &mut [u8], body: &[u8]) -> Provisioned
-    requires { ⌜ (soundOf (now plan) ≡ true) × (length (now body) ≡ 21) ⌝ }
+    requires { ⌜ (soundOf (now plan) ≡ true) × (length (now body) ≡ RULE-BODY) ⌝ }
     ensures { λ r. ⌜ Provides (calls addRule (now (body .entry))) (now (plan .entry)) (now (plan .exit)) (numberOfProvisioned r) ⌝ }
 {
     match add_rule_refusal(plan, body) {
         Provisioned::Refused(r) => Provisioned::Refused(r),
         Provisioned::Accepted => {
-            let place = place_of(plan, &body[0..19]);
-            plan::insert_rule(plan, place, &body[0..19], changes::set_number(body, 19));
+            let place = place_of(plan, &body[0..FILTER_BYTES]);
+            plan::insert_rule(
+                plan,
+                place,
+                &body[0..FILTER_BYTES],
+                changes::set_number(body, SET_AT),
+            );
             Provisioned::Accepted
         }
     }
 }
 
 fn change_rule_refusal(plan: &[u8], body: &[u8]) -> Provisioned
-    requires { ⌜ (soundOf (now plan) ≡ true) × (length (now body) ≡ 21) ⌝ }
+    requires { ⌜ (soundOf (now plan) ≡ true) × (length (now body) ≡ RULE-BODY) ⌝ }
     ensures { λ r. ⌜ numberOfProvisioned r ≡ firstOf (changeRuleLines (planOf (now (plan .entry))) (now (body .entry))) ⌝ }
 {
-    let set = changes::set_number(body, 19);
+    let set = changes::set_number(body, SET_AT);
     if changes::is_over_room(plan, set) {
         return Provisioned::Refused(Refusal::Range);
     }
-    if !filter::filter_in_range(&body[0..19]) {
+    if !filter::filter_in_range(&body[0..FILTER_BYTES]) {
         return Provisioned::Refused(Refusal::Range);
     }
-    if !holds_filter(plan, &body[0..19]) {
+    if !holds_filter(plan, &body[0..FILTER_BYTES]) {
         return Provisioned::Refused(Refusal::Absent);
     }
     if !plan::is_held(plan, set) {
         return Provisioned::Refused(Refusal::Absent);
     }
-    if !changes::fits(&body[0..19], plan::content(plan, set)) {
+    if !changes::fits(&body[0..FILTER_BYTES], plan::content(plan, set)) {
         return Provisioned::Refused(Refusal::Misfit);
     }
     Provisioned::Accepted
 }
 
 pub fn change_rule_known(plan: &mut [u8], body: &[u8]) -> Provisioned
-    requires { ⌜ (soundOf (now plan) ≡ true) × (length (now body) ≡ 21) ⌝ }
+    requires { ⌜ (soundOf (now plan) ≡ true) × (length (now body) ≡ RULE-BODY) ⌝ }
     ensures { λ r. ⌜ Provides (calls changeRule (now (body .entry))) (now (plan .entry)) (now (plan .exit)) (numberOfProvisioned r) ⌝ }
 {
     match change_rule_refusal(plan, body) {
         Provisioned::Refused(r) => Provisioned::Refused(r),
         Provisioned::Accepted => {
-            let place = place_of(plan, &body[0..19]);
-            plan::rename_rule(plan, place, changes::set_number(body, 19));
+            let place = place_of(plan, &body[0..FILTER_BYTES]);
+            plan::rename_rule(plan, place, changes::set_number(body, SET_AT));
             Provisioned::Accepted
         }
     }
 }
 
 fn remove_rule_refusal(plan: &[u8], body: &[u8]) -> Provisioned
-    requires { ⌜ (soundOf (now plan) ≡ true) × (length (now body) ≡ 19) ⌝ }
+    requires { ⌜ (soundOf (now plan) ≡ true) × (length (now body) ≡ FILTER-BYTES) ⌝ }
     ensures { λ r. ⌜ numberOfProvisioned r ≡ firstOf (removeRuleLines (planOf (now (plan .entry))) (now (body .entry))) ⌝ }
 {
-    if !filter::filter_in_range(&body[0..19]) {
+    if !filter::filter_in_range(&body[0..FILTER_BYTES]) {
         return Provisioned::Refused(Refusal::Range);
     }
-    if !holds_filter(plan, &body[0..19]) {
+    if !holds_filter(plan, &body[0..FILTER_BYTES]) {
         return Provisioned::Refused(Refusal::Absent);
     }
     Provisioned::Accepted
 }
 
 pub fn remove_rule_known(plan: &mut [u8], body: &[u8]) -> Provisioned
-    requires { ⌜ (soundOf (now plan) ≡ true) × (length (now body) ≡ 19) ⌝ }
+    requires { ⌜ (soundOf (now plan) ≡ true) × (length (now body) ≡ FILTER-BYTES) ⌝ }
     ensures { λ r. ⌜ Provides (calls removeRule (now (body .entry))) (now (plan .entry)) (now (plan .exit)) (numberOfProvisioned r) ⌝ }
 {
     match remove_rule_refusal(plan, body) {
         Provisioned::Refused(r) => Provisioned::Refused(r),
         Provisioned::Accepted => {
-            let place = place_of(plan, &body[0..19]);
+            let place = place_of(plan, &body[0..FILTER_BYTES]);
             plan::remove_rule(plan, place);
             Provisioned::Accepted
         }

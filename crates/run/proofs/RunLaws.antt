@@ -1,6 +1,6 @@
--- How opening and provisioning in a run meet their promise: a call over a plan does not look at the room; an opening within 64 sets and 512
--- rules has the bytes that it needs; any other lacks room in a run just as in a memory of 0 bytes.
-use Prim.Native.Nat.{ℕ, _≤_, _<_}
+-- How opening and provisioning in a run meet their promise: a call over a plan does not look at the room; an opening within the
+-- rooms of a run has the bytes that it needs; any other lacks room in a run just as in a memory of 0 bytes.
+use Prim.Native.Nat.{ℕ, _+_, _≤_, _<_}
 use mathlib.Core.Path.{_≡_, refl, ap, sym, _∙_}
 use mathlib.Core.Logic.{_≢_}
 use mathlib.Core.Bool.{Bool, true, false, _&&_, _||_, not}
@@ -10,12 +10,13 @@ use native.Mathlib.Omega.{arith}
 use lib.ListN.{length}
 use lib.Seq.{getD-take, take-all}
 use lib.Dec.{T, ltb, eqb, lit<, eqb→eq}
-use borrow.Author.Tests.{lt-ltb, le-ltb, ltb-false, ne-eqb, eqb-true, eqb-false}
+use borrow.Author.Tests.{lt-ltb, le-ltb, ltb-false, leb-true, ne-eqb, eqb-true, eqb-false}
+use Rattle.meaning.specs.Sizes.{ROOMS-BYTES, OPENING-BYTES, RUN-SETS, RUN-RULES, RUN-BYTES}
 use Rattle.meaning.specs.Basics.{if_then_else_, isZero, word}
 use Rattle.meaning.specs.Refusals.{PLAN, firstOf}
 use Rattle.meaning.specs.Settings.{roomsOf, bytesNeeded}
 use Rattle.meaning.specs.Plan.{Plan}
-use Rattle.meaning.specs.Calls.{Operation, openPlan, addSet, replaceSet, removeSet, addRule, changeRule, removeRule, Call, kindOf, bodyLength, bodyOf, openedRooms, openingLines, lacksBytes, linesOf, refusal, made, isAccepted, after}
+use Rattle.meaning.specs.Calls.{Operation, openPlan, addSet, replaceSet, removeSet, addRule, changeRule, removeRule, Call, OPEN-PLAN, ADD-SET, REPLACE-SET, REMOVE-SET, ADD-RULE, CHANGE-RULE, REMOVE-RULE, isCall, kindOf, bodyLength, bodyOf, openedRooms, openingLines, lacksBytes, linesOf, refusal, made, isAccepted, after}
 use Rattle.meaning.specs.Records.{lacksProgramRoom, operationOf, callOf}
 use Rattle.meaning.proofs.Tests.{true-is, is-false, false-is, and-left, and-right, or-left-false, or-right-false, or-other, passed-at, at-below}
 use Rattle.meaning.proofs.Soundness.{accepted-passed}
@@ -25,7 +26,7 @@ use Rattle.plan.proofs.ImageLaws.{sound-memory, state-some, state-none}
 use Rattle.changes.specs.Promise.{memoryOf, memoryAfter, Provides, calls}
 use Rattle.changes.proofs.PromiseLaws.{isOpening, unsound}
 use Rattle.changes.proofs.Chains.{after-call}
-use Rattle.run.specs.Runs.{RUN-BYTES, RunProvides}
+use Rattle.run.specs.Runs.{RunProvides}
 
 -- A CALL THAT IS REFUSED
 
@@ -112,9 +113,9 @@ unfolding lacksProgramRoom bytesNeeded
 run-room size rooms h e =
     let sets : ℕ = (roomsOf rooms) .sets in
     let rules : ℕ = (roomsOf rooms) .rules in
-    let t : T (not (ltb 64 sets || ltb 512 rules)) = false-is (ltb 64 sets || ltb 512 rules) e in
-    let few : sets ≤ 64 = ltb-false 64 sets (is-false (ltb 64 sets) (or-left-false (ltb 64 sets) (ltb 512 rules) t)) in
-    let fewer : rules ≤ 512 = ltb-false 512 rules (is-false (ltb 512 rules) (or-right-false (ltb 64 sets) (ltb 512 rules) t)) in
+    let t : T (not (ltb RUN-SETS sets || ltb RUN-RULES rules)) = false-is (ltb RUN-SETS sets || ltb RUN-RULES rules) e in
+    let few : sets ≤ RUN-SETS = ltb-false RUN-SETS sets (is-false (ltb RUN-SETS sets) (or-left-false (ltb RUN-SETS sets) (ltb RUN-RULES rules) t)) in
+    let fewer : rules ≤ RUN-RULES = ltb-false RUN-RULES rules (is-false (ltb RUN-RULES rules) (or-right-false (ltb RUN-SETS sets) (ltb RUN-RULES rules) t)) in
     le-ltb size (bytesNeeded (roomsOf rooms)) (omega arith)
 
 -- a plan needs bytes
@@ -128,54 +129,57 @@ pub changed : (o : Operation) (m b left : List ℕ) (n : ℕ) → isOpening o �
 changed o m b left n e p =
     provided (calls o b) m left n (same-number (calls o b) (lacksBytes (length m)) lacksProgramRoom (stateOf m) (not-both e)) p
 
--- kinds 1 to 6 are such calls
+-- every kind of a call but the opening's is such a call
 abbrev isChange : ℕ → Bool
 isChange k = not (isOpening (operationOf k)) && eqb (kindOf (operationOf k)) k
 
-change-kinds : (k : ℕ) → 1 ≤ k → k ≤ 6 → T (isChange k)
-unfolding operationOf
-change-kinds k l h = or-other (isZero k) (isChange k) (at-below (λ (j : ℕ). isZero j || isChange j) 7 tt k (omega arith)) (false-is (isZero k) (ne-eqb k 0 (λ e. omega arith)))
+change-kinds : (k : ℕ) → k ≢ OPEN-PLAN → isCall k ≡ true → T (isChange k)
+unfolding operationOf isCall
+change-kinds k other c =
+    or-other (isZero k) (isChange k) (at-below (λ (j : ℕ). isZero j || isChange j) (REMOVE-RULE + 1) tt k (omega (arith, leb-true k REMOVE-RULE c)))
+    (false-is (isZero k) (ne-eqb k OPEN-PLAN other))
 
 -- the kind that is none of the others
-pub last-kind : (k : ℕ) → 1 ≤ k → k ≤ 6 → k ≢ 1 → k ≢ 2 → k ≢ 3 → k ≢ 4 → k ≢ 5 → k ≡ 6
-last-kind k l h n1 n2 n3 n4 n5 = let least : 6 ≤ k = omega arith in omega arith
+pub last-kind : (k : ℕ) → k ≢ OPEN-PLAN → isCall k ≡ true → k ≢ ADD-SET → k ≢ REPLACE-SET → k ≢ REMOVE-SET → k ≢ ADD-RULE → k ≢ CHANGE-RULE → k ≡ REMOVE-RULE
+unfolding isCall
+last-kind k n0 c n1 n2 n3 n4 n5 = let least : REMOVE-RULE ≤ k = omega arith in omega (arith, leb-true k REMOVE-RULE c)
 
 -- over no plan each of them is refused
-pub unopened : (k : ℕ) (m b : List ℕ) → 1 ≤ k → k ≤ 6 → length b ≡ bodyLength k → soundOf m ≡ false → RunProvides (callOf k b) m m PLAN
-unopened k m b l h size s =
+pub unopened : (k : ℕ) (m b : List ℕ) → k ≢ OPEN-PLAN → isCall k ≡ true → length b ≡ bodyLength k → soundOf m ≡ false → RunProvides (callOf k b) m m PLAN
+unopened k m b other c size s =
     let o : Operation = operationOf k in
-    let t = change-kinds k l h in
+    let t = change-kinds k other c in
     let e : isOpening o ≡ false = is-false (isOpening o) (and-left (not (isOpening o)) (eqb (kindOf o) k) t) in
     let kind : kindOf o ≡ k = eqb→eq (kindOf o) k (and-right (not (isOpening o)) (eqb (kindOf o) k) t) in
     changed o m b m PLAN e (unsound o m b e (rw (kind, size) (omega arith)) s)
 
 -- OPENING: `sets` and `rules` are the rooms that the body asks for
 
-asked-room : (b : List ℕ) → lacksProgramRoom (openedRooms b) ≡ (ltb 64 (word b 0) || ltb 512 (word b 2))
+asked-room : (b : List ℕ) → lacksProgramRoom (openedRooms b) ≡ (ltb RUN-SETS (word b 0) || ltb RUN-RULES (word b 2))
 unfolding lacksProgramRoom roomsOf
-asked-room b = rw (getD-take 4 b 0 0 (lit< tt), getD-take 4 b 1 0 (lit< tt), getD-take 4 b 2 0 (lit< tt), getD-take 4 b 3 0 (lit< tt))
+asked-room b = rw (getD-take ROOMS-BYTES b 0 0 (lit< tt), getD-take ROOMS-BYTES b 1 0 (lit< tt), getD-take ROOMS-BYTES b 2 0 (lit< tt), getD-take ROOMS-BYTES b 3 0 (lit< tt))
 
-pub over-sets : (b : List ℕ) (sets : ℕ) → sets ≡ word b 0 → 64 < sets → lacksProgramRoom (openedRooms b) ≡ true
-over-sets b sets e h = asked-room b ∙ rw (lt-ltb 64 (word b 0) (omega arith))
+pub over-sets : (b : List ℕ) (sets : ℕ) → sets ≡ word b 0 → RUN-SETS < sets → lacksProgramRoom (openedRooms b) ≡ true
+over-sets b sets e h = asked-room b ∙ rw (lt-ltb RUN-SETS (word b 0) (omega arith))
 
-pub over-rules : (b : List ℕ) (rules : ℕ) → rules ≡ word b 2 → 512 < rules → lacksProgramRoom (openedRooms b) ≡ true
-over-rules b rules e h = asked-room b ∙ (rw (lt-ltb 512 (word b 2) (omega arith)) (go (ltb 64 (word b 0))))
+pub over-rules : (b : List ℕ) (rules : ℕ) → rules ≡ word b 2 → RUN-RULES < rules → lacksProgramRoom (openedRooms b) ≡ true
+over-rules b rules e h = asked-room b ∙ (rw (lt-ltb RUN-RULES (word b 2) (omega arith)) (go (ltb RUN-SETS (word b 0))))
   where
     go : (t : Bool) → (t || true) ≡ true
     go true = refl
     go false = refl
 
-pub within-both : (b : List ℕ) (sets rules : ℕ) → sets ≡ word b 0 → rules ≡ word b 2 → sets ≤ 64 → rules ≤ 512 → lacksProgramRoom (openedRooms b) ≡ false
-within-both b sets rules e f h k = asked-room b ∙ rw (le-ltb 64 (word b 0) (omega arith), le-ltb 512 (word b 2) (omega arith))
+pub within-both : (b : List ℕ) (sets rules : ℕ) → sets ≡ word b 0 → rules ≡ word b 2 → sets ≤ RUN-SETS → rules ≤ RUN-RULES → lacksProgramRoom (openedRooms b) ≡ false
+within-both b sets rules e f h k = asked-room b ∙ rw (le-ltb RUN-SETS (word b 0) (omega arith), le-ltb RUN-RULES (word b 2) (omega arith))
 
-module _ (m b : List ℕ) (size : length b ≡ 40) where
+module _ (m b : List ℕ) (size : length b ≡ OPENING-BYTES) where
   whole-body : bodyOf (calls openPlan b) ≡ b
   unfolding bodyLength
-  whole-body = take-all 40 b (omega arith)
+  whole-body = take-all OPENING-BYTES b (omega arith)
 
   opening-number : refusal lacksProgramRoom (stateOf m) (calls openPlan b) ≡ firstOf (openingLines lacksProgramRoom b)
   unfolding refusal bodyLength
-  opening-number = rw (le-ltb (length b) 40 (omega arith), whole-body)
+  opening-number = rw (le-ltb (length b) OPENING-BYTES (omega arith), whole-body)
 
   -- over the limits: "more is ROOM there"
   pub opened-over : (n : ℕ) → n ≡ firstOf (openingLines (lacksBytes 0) b) → lacksProgramRoom (openedRooms b) ≡ true → RunProvides (calls openPlan b) m m n

@@ -4,14 +4,11 @@ use mathlib.Core.Path.{_≡_}
 use mathlib.Core.Bool.{Bool}
 use mathlib.Core.List.{List}
 use lib.ListN.{length}
+use Rattle.meaning.specs.Sizes.{RUN-BYTES}
 use Rattle.meaning.specs.Calls.{Call, refusal, after}
 use Rattle.meaning.specs.Records.{lacksProgramRoom}
 use Rattle.plan.specs.State.{soundOf, stateOf}
 use Rattle.changes.specs.Promise.{memoryOf}
-
--- the bytes that a plan with the rooms of a run needs: 64 + 48 for each of 64 sets + 24 for each of 512 rules
-abbrev pub RUN-BYTES : ℕ
-RUN-BYTES = 15424
 
 -- the memory of a run, which has room for every plan of it; `opened`: it holds a sound plan
 pub record InRun (m : List ℕ) (opened : Bool) : Type 0 where

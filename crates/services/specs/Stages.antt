@@ -1,10 +1,11 @@
 -- What the service stage's struct says of a stage of document 01, and what its functions promise.
-use Prim.Native.Nat.{ℕ, _≤_}
+use Prim.Native.Nat.{ℕ, _-_, _≤_}
 use mathlib.Core.Path.{_≡_}
 use mathlib.Core.Bool.{Bool, false, _&&_, _||_}
 use mathlib.Core.List.{List, []}
 use lib.ListN.{length, take, getD}
 use lib.Dec.{leb, ltb, eqb}
+use Rattle.meaning.specs.Sizes.{SETTINGS-BYTES, LOOKUP-BYTES}
 use Rattle.meaning.specs.Basics.{if_then_else_, writtenOver}
 use Rattle.meaning.specs.Settings.{Settings, Lookup, settingsOf, lookupOf}
 use Rattle.meaning.specs.Actions.{INPRTG, CDPNNP, ASDLKUP, GRNLKUP, CDIAL, codesOf}
@@ -61,8 +62,8 @@ codeListed code = if ltb CDIAL code then CDIAL else code
 -- what the stage is asked over: a set's service actions, the settings, and a lookup with its kind in range
 pub record Serviceable (sas settings lookup : List ℕ) : Type 0 where
   pub few : length sas ≤ 8
-  pub settings-long : length settings ≡ 36
-  pub lookup-long : length lookup ≡ 39
+  pub settings-long : length settings ≡ SETTINGS-BYTES
+  pub lookup-long : length lookup ≡ LOOKUP-BYTES
   pub kind : getD lookup 0 0 ≤ 3
 
 -- document 01's stage after all the actions

@@ -1,19 +1,15 @@
 // The service stage: a set's service actions carried out in list order over a lookup.
 use actions::code_at;
 use buffer::wide;
+use meaning::sa::ASDLKUP;
+use meaning::sa::CDIAL;
+use meaning::sa::CDPNNP;
+use meaning::sa::GRNLKUP;
+use meaning::sa::INPRTG;
+use meaning::sizes::ANSWERS_AT;
 ghost use mathlib.Core.Path.{_≡_};
 ghost use Prim.Native.Nat.{_≤_};
 ghost use Rattle.services.specs.Stages.{noEffect, servedWith, responseAfter, withheldAfter, carriedAfter, effectAfter, codeListed, Serviceable, ServedFrom, ServedAnew};
-
-const INPRTG: u8 = 1;
-
-const CDPNNP: u8 = 2;
-
-const ASDLKUP: u8 = 3;
-
-const GRNLKUP: u8 = 4;
-
-const CDIAL: u8 = 5;
 
 // The response RELAY: the stage goes on. It ends at every response above.
 const RELAY: u8 = 1;
@@ -123,7 +119,7 @@ pub fn serve(sas: &[u8], settings: &[u8], lookup: &[u8], places: [u8; 8]) -> Ser
     ensures { λ r. ⌜ ServedFrom places (now (sas .entry)) (now (settings .entry)) (now (lookup .entry)) r ⌝ }
 {
     let kind = lookup[0];
-    let answer = settings[32 + wide(kind)];
+    let answer = settings[ANSWERS_AT + wide(kind)];
     let mut actions = places;
     let mut e = no_effect();
     let mut i = 0;

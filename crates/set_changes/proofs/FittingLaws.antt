@@ -7,6 +7,7 @@ use native.Mathlib.Omega.{arith}
 use lib.ListN.{take, drop}
 use lib.Dec.{eqb}
 use borrow.Author.Tests.{eq-eqb, ne-eqb}
+use Rattle.meaning.specs.Sizes.{RULE-WIDTH}
 use Rattle.meaning.specs.Basics.{all}
 use Rattle.meaning.specs.Filters.{filterOf}
 use Rattle.meaning.specs.Rules.{Rule, filterIn, names}
@@ -27,20 +28,20 @@ pub fitting-none : (set : ℕ) (content area : List ℕ) (n : ℕ) → Fitting s
 fitting-none set content area n = rw (rules-full n area)
 
 module _ (set : ℕ) (content area : List ℕ) (n i : ℕ) (h : Fitting set content area n i) where
-  module _ (named : ℕ) (inside : i < n) (named-is : named ≡ ruleOf (take 24 (drop (24 * i) area)) .set) where
+  module _ (named : ℕ) (inside : i < n) (named-is : named ≡ ruleOf (take RULE-WIDTH (drop (RULE-WIDTH * i) area)) .set) where
     step : all (fitting set content) (rulesOf n area)
-        ≡ ((not (eqb named set) || fit (filterOf (take 24 (drop (24 * i) area))) (actionsOf content)) && all (fitting set content) (rulesFrom n (i + 1) area))
-    step = h ∙ rw (rules-more n i area inside, filter-in (take 24 (drop (24 * i) area)), named-is)
+        ≡ ((not (eqb named set) || fit (filterOf (take RULE-WIDTH (drop (RULE-WIDTH * i) area))) (actionsOf content)) && all (fitting set content) (rulesFrom n (i + 1) area))
+    step = h ∙ rw (rules-more n i area inside, filter-in (take RULE-WIDTH (drop (RULE-WIDTH * i) area)), named-is)
 
     pub fitting-other : (named ≡ set → ⊥) → Fitting set content area n (i + 1)
     fitting-other e = step ∙ rw (ne-eqb named set e)
 
     -- b is whether the content fits the filter of slot i
-    module _ (e : named ≡ set) (b : Bool) (b-is : b ≡ fit (filterOf (take (24 * i + 24 - 24 * i) (drop (24 * i) area))) (actionsOf content)) where
+    module _ (e : named ≡ set) (b : Bool) (b-is : b ≡ fit (filterOf (take (RULE-WIDTH * i + RULE-WIDTH - RULE-WIDTH * i) (drop (RULE-WIDTH * i) area))) (actionsOf content)) where
       named-step : all (fitting set content) (rulesOf n area) ≡ (b && all (fitting set content) (rulesFrom n (i + 1) area))
       named-step =
-          let k : 24 * i + 24 - 24 * i ≡ 24 = omega arith in
-          let f : b ≡ fit (filterOf (take 24 (drop (24 * i) area))) (actionsOf content) = b-is ∙ rw k in
+          let k : RULE-WIDTH * i + RULE-WIDTH - RULE-WIDTH * i ≡ RULE-WIDTH = omega arith in
+          let f : b ≡ fit (filterOf (take RULE-WIDTH (drop (RULE-WIDTH * i) area))) (actionsOf content) = b-is ∙ rw k in
           step ∙ rw (eq-eqb named set e, f)
 
       pub fitting-misfit : b ≡ false → all (fitting set content) (rulesOf n area) ≡ false

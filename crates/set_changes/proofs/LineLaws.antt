@@ -8,6 +8,7 @@ use native.Mathlib.Omega.{arith}
 use lib.Seq.{getD-take}
 use lib.Dec.{T, lit<}
 use borrow.Author.Tests.{lt-ltb, le-ltb, ltb-false, leb-false}
+use Rattle.meaning.specs.Sizes.{ROOMS-BYTES, SETS-AT, SET-WIDTH, RULE-WIDTH}
 use Rattle.meaning.specs.Basics.{all, any, isSome, word}
 use Rattle.meaning.specs.Refusals.{ROOM, RANGE, GROUPS, TAKEN, ABSENT, MISFIT, IN-USE, firstOf}
 use Rattle.meaning.specs.Settings.{roomsOf, roomsInRange, settingsInRange, bytesNeeded}
@@ -61,15 +62,15 @@ unfolding openingLines
 opening-lines size b rooms settings lacks e f g = sym (rw (e, f, g))
 
 -- the bytes that the rooms need, as they are read from the body
-needed : (b : List ℕ) → bytesNeeded (roomsOf (openedRooms b)) ≡ 64 + 48 * word b 0 + 24 * word b 2
+needed : (b : List ℕ) → bytesNeeded (roomsOf (openedRooms b)) ≡ SETS-AT + SET-WIDTH * word b 0 + RULE-WIDTH * word b 2
 unfolding bytesNeeded roomsOf
-needed b = rw (getD-take 4 b 0 0 (lit< tt), getD-take 4 b 1 0 (lit< tt), getD-take 4 b 2 0 (lit< tt), getD-take 4 b 3 0 (lit< tt))
+needed b = rw (getD-take ROOMS-BYTES b 0 0 (lit< tt), getD-take ROOMS-BYTES b 1 0 (lit< tt), getD-take ROOMS-BYTES b 2 0 (lit< tt), getD-take ROOMS-BYTES b 3 0 (lit< tt))
 
 module _ (size : ℕ) (b : List ℕ) (sets rules : ℕ) (sets-is : sets ≡ word b 0) (rules-is : rules ≡ word b 2) where
-  pub lacks : size < 64 + 48 * sets + 24 * rules → lacksBytes size (openedRooms b) ≡ true
+  pub lacks : size < SETS-AT + SET-WIDTH * sets + RULE-WIDTH * rules → lacksBytes size (openedRooms b) ≡ true
   lacks h = lt-ltb size (bytesNeeded (roomsOf (openedRooms b))) (rw (needed b, ← sets-is, ← rules-is) h)
 
-  pub suffices : 64 + 48 * sets + 24 * rules ≤ size → lacksBytes size (openedRooms b) ≡ false
+  pub suffices : SETS-AT + SET-WIDTH * sets + RULE-WIDTH * rules ≤ size → lacksBytes size (openedRooms b) ≡ false
   suffices h = le-ltb size (bytesNeeded (roomsOf (openedRooms b))) (rw (needed b, ← sets-is, ← rules-is) h)
 
 -- where opening is accepted, the memory has the bytes that the rooms need

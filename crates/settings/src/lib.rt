@@ -1,15 +1,30 @@
 // RANGE of an opening's rooms and settings, and of a number: its class, its digits and its lookup.
 ghost use mathlib.Core.Path.{_≡_};
 ghost use lib.ListN.{length};
+ghost use Rattle.meaning.specs.Sizes.{ROOMS-BYTES, SETTINGS-BYTES, LOOKUP-BYTES, NUMBER-BYTES};
 ghost use Rattle.meaning.specs.Basics.{if_then_else_, all, within};
 ghost use Rattle.meaning.specs.Settings.{isClass, roomsInRange, settingsInRange, entityInRange, asdOrGrnInRange, lookupInRange, numberInRange, dialledInRange};
 ghost use Rattle.blocks.specs.Places.{maskTable};
 use meaning::Class;
 use meaning::ClassOf;
+use meaning::sizes::ANSWERS_AT;
+use meaning::sizes::ANSWERS_END;
+use meaning::sizes::ASD_IN;
+use meaning::sizes::CLASS_AT;
+use meaning::sizes::COUNTRY_AT;
+use meaning::sizes::DELIMITER_A_AT;
+use meaning::sizes::DELIMITER_B_AT;
+use meaning::sizes::DFLTRN_AT;
+use meaning::sizes::DIALLED_AT;
+use meaning::sizes::ENTITY_IN;
+use meaning::sizes::GRN_IN;
+use meaning::sizes::LOOKUP_AT;
+use meaning::sizes::LOOKUP_BYTES;
+use meaning::sizes::VALUE_BYTES;
 
 // Whether the rooms of an opening are in range.
 pub fn rooms_in_range(rooms: &[u8]) -> bool
-    requires { ⌜ length (now rooms) ≡ 4 ⌝ }
+    requires { ⌜ length (now rooms) ≡ ROOMS-BYTES ⌝ }
     ensures { λ r. ⌜ r ≡ roomsInRange (now (rooms .entry)) ⌝ }
 {
     let sets = buffer::word(rooms, 0);
@@ -46,22 +61,22 @@ fn answers_in_range(answers: &[u8]) -> bool
 
 // Whether the settings of an opening are in range.
 pub fn settings_in_range(settings: &[u8]) -> bool
-    requires { ⌜ length (now settings) ≡ 36 ⌝ }
+    requires { ⌜ length (now settings) ≡ SETTINGS-BYTES ⌝ }
     ensures { λ r. ⌜ r ≡ settingsInRange (now (settings .entry)) ⌝ }
 {
-    if !blocks::digits_in_range(&settings[0..4], 1, 3) {
+    if !blocks::digits_in_range(&settings[COUNTRY_AT..DFLTRN_AT], 1, 3) {
         return false;
     }
-    if !blocks::digits_in_range(&settings[4..20], 0, 15) {
+    if !blocks::digits_in_range(&settings[DFLTRN_AT..DELIMITER_A_AT], 0, 15) {
         return false;
     }
-    if !blocks::digits_in_range(&settings[20..26], 0, 5) {
+    if !blocks::digits_in_range(&settings[DELIMITER_A_AT..DELIMITER_B_AT], 0, 5) {
         return false;
     }
-    if !blocks::digits_in_range(&settings[26..32], 0, 5) {
+    if !blocks::digits_in_range(&settings[DELIMITER_B_AT..ANSWERS_AT], 0, 5) {
         return false;
     }
-    answers_in_range(&settings[32..36])
+    answers_in_range(&settings[ANSWERS_AT..ANSWERS_END])
 }
 
 // Whether a byte is a class.
@@ -104,7 +119,7 @@ fn asd_or_grn_in_range(kind: u8, digits: &[u8], masks: &[u8]) -> bool
 
 // Whether a lookup is in range.
 fn lookup_in_range(lookup: &[u8], masks: &[u8]) -> bool
-    requires { ⌜ length (now lookup) ≡ 39 ⌝ }
+    requires { ⌜ length (now lookup) ≡ LOOKUP-BYTES ⌝ }
     requires { ⌜ now masks ≡ maskTable ⌝ }
     ensures { λ r. ⌜ r ≡ lookupInRange (now (lookup .entry)) ⌝ }
 {
@@ -112,32 +127,32 @@ fn lookup_in_range(lookup: &[u8], masks: &[u8]) -> bool
     if 3 < kind {
         return false;
     }
-    if !entity_in_range(kind, &lookup[1..17], masks) {
+    if !entity_in_range(kind, &lookup[ENTITY_IN..ASD_IN], masks) {
         return false;
     }
-    if !asd_or_grn_in_range(kind, &lookup[17..28], masks) {
+    if !asd_or_grn_in_range(kind, &lookup[ASD_IN..GRN_IN], masks) {
         return false;
     }
-    asd_or_grn_in_range(kind, &lookup[28..39], masks)
+    asd_or_grn_in_range(kind, &lookup[GRN_IN..LOOKUP_BYTES], masks)
 }
 
 // Whether the body of a number is in range, by a table of masks that is made once for many numbers.
 pub fn number_in_range_by(masks: &[u8], body: &[u8]) -> bool
-    requires { ⌜ (length (now body) ≡ 73) × (now masks ≡ maskTable) ⌝ }
+    requires { ⌜ (length (now body) ≡ NUMBER-BYTES) × (now masks ≡ maskTable) ⌝ }
     ensures { λ r. ⌜ r ≡ numberInRange (now (body .entry)) ⌝ }
 {
-    if !is_class(body[0]) {
+    if !is_class(body[CLASS_AT]) {
         return false;
     }
-    if !blocks::digits_in_range_by(&body[1..34], 0, 32, masks) {
+    if !blocks::digits_in_range_by(&body[DIALLED_AT..LOOKUP_AT], 0, 32, masks) {
         return false;
     }
-    lookup_in_range(&body[34..73], masks)
+    lookup_in_range(&body[LOOKUP_AT..VALUE_BYTES], masks)
 }
 
 // The same for one number.
 pub fn number_in_range(body: &[u8]) -> bool
-    requires { ⌜ length (now body) ≡ 73 ⌝ }
+    requires { ⌜ length (now body) ≡ NUMBER-BYTES ⌝ }
     ensures { λ r. ⌜ r ≡ numberInRange (now (body .entry)) ⌝ }
 {
     let mut masks = [0xffu8; 64];

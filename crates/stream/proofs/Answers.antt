@@ -7,6 +7,7 @@ use native.Mathlib.Omega.{arith}
 use lib.ListN.{length, take, drop, length-drop, take-append-drop}
 use lib.Seq.{drop-append-le, length-take-le}
 use borrow.Rule.Slice.PartMut.{midOf, putMid, postOf, post-is}
+use Rattle.meaning.specs.Sizes.{LONGEST-RECORD}
 use Rattle.meaning.specs.Basics.{if_then_else_, writtenOver}
 use Rattle.buffer.proofs.ListLaws.{drop-take}
 use Rattle.record.specs.Turns.{isWhole}
@@ -66,7 +67,7 @@ module _ (s : Source) (left : ℕ) (input : List ℕ) where
 
     pub may-read : Suppliable s left input → s .ended ≡ false → r ≡ false → Fillable s left input
     may-read p e w =
-        let few : length (take left input) < 74 = not-whole-few (take left input) (whole-is ∙ w) in
+        let few : length (take left input) < LONGEST-RECORD = not-whole-few (take left input) (whole-is ∙ w) in
         record {
           more = omega (arith, few, length-take-le left input (p .inside), p .enough);
           not-ended = e;

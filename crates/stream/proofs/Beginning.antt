@@ -4,6 +4,7 @@ use mathlib.Core.Path.{_≡_, refl, ap, _∙_}
 use mathlib.Core.Bool.{false}
 use native.Mathlib.Omega.{arith}
 use lib.ListN.{take}
+use Rattle.meaning.specs.Sizes.{ROOMS-BYTES, ROOMS-AT, SETTINGS-AT, RUN-BYTES}
 use Rattle.meaning.specs.Basics.{part}
 use Rattle.meaning.specs.Settings.{roomsInRange}
 use Rattle.meaning.specs.Plan.{soundRules, sound}
@@ -12,15 +13,15 @@ use Rattle.buffer.specs.Zeros.{zeros}
 use Rattle.buffer.proofs.ZeroLaws.{length-zeros, take-zeros, drop-zeros}
 use Rattle.plan.specs.Layout.{planOf}
 use Rattle.plan.specs.State.{soundTests, soundOf}
-use Rattle.run.specs.Runs.{RUN-BYTES, InRun}
+use Rattle.run.specs.Runs.{InRun}
 
-rooms-zero : (n : ℕ) → RUN-BYTES ≤ n → part 8 4 (zeros n) ≡ zeros 4
+rooms-zero : (n : ℕ) → RUN-BYTES ≤ n → part ROOMS-AT ROOMS-BYTES (zeros n) ≡ zeros ROOMS-BYTES
 rooms-zero n h =
-    let k : ℕ = n - 12 in
-    let e : n ≡ 8 + (4 + k) = omega arith in
-    ap (λ (x : ℕ). part 8 4 (zeros x)) e ∙ (ap (take 4) (drop-zeros 8 (4 + k)) ∙ take-zeros 4 k)
+    let k : ℕ = n - SETTINGS-AT in
+    let e : n ≡ ROOMS-AT + (ROOMS-BYTES + k) = omega arith in
+    ap (λ (x : ℕ). part ROOMS-AT ROOMS-BYTES (zeros x)) e ∙ (ap (take ROOMS-BYTES) (drop-zeros ROOMS-AT (ROOMS-BYTES + k)) ∙ take-zeros ROOMS-BYTES k)
 
-none-in-range : roomsInRange (zeros 4) ≡ false
+none-in-range : roomsInRange (zeros ROOMS-BYTES) ≡ false
 unfolding zeros roomsInRange
 none-in-range = refl
 

@@ -7,12 +7,11 @@ use mathlib.Core.List.{List, [], _++_, append-assoc, append-nil}
 use native.Mathlib.Omega.{arith}
 use lib.IntN.{ℤ}
 use lib.ListN.{length, length-append}
+use Rattle.meaning.specs.Sizes.{RUN-BYTES}
 use Rattle.meaning.specs.Records.{fileText, fileEnd}
 use Rattle.buffer.specs.Zeros.{zeros}
 use Rattle.buffer.proofs.ZeroLaws.{length-zeros}
-use Rattle.plan.specs.State.{stateOf}
-use Rattle.run.specs.Runs.{RUN-BYTES}
-use Rattle.record.specs.Promises.{Runs, RunEnd, runEndHere, runEndBehind, endOf, start}
+use Rattle.record.specs.Promises.{houseOf, Runs, RunEnd, runEndHere, runEndBehind, endOf, start}
 use Rattle.record.proofs.Steps.{any-run}
 use Rattle.pump.proofs.Pumping.{none-before, both-before}
 use Rattle.pump.proofs.SomeRuns.{SomeRun, some-run}
@@ -112,7 +111,7 @@ module _ (from to : ℤ) (size : ℕ) (first-input first-output after input-left
           record {
             text-is = λ more last. all more last .0 ∙ ap fileText (sym (append-assoc (c .given) (givenIn w) more));
             end-is = λ more last.
-                ap (λ (k : ℕ). record { refusal = w .so .pumped .refusal; place = k; plan = stateOf after }) place
+                ap (λ (k : ℕ). record { refusal = w .so .pumped .refusal; place = k; house = houseOf after }) place
                 ∙ (all more last .1 ∙ ap fileEnd (sym (append-assoc (c .given) (givenIn w) more)));
             all-given = given-on (c .ready) w ∙ (ap (λ (k : ℕ). k + length (givenIn w)) (all-given (c .chain)) ∙ sym (length-append (c .given) (givenIn w)));
             all-written =

@@ -10,9 +10,10 @@ use lib.ListN.{length}
 use mir.Syntax.{w32}
 use mir.Val.{SFits, toZ, ofZ}
 use mir.ValLaws.{toZ-ofZ}
+use Rattle.meaning.specs.Sizes.{LONGEST-RECORD, RUN-BYTES}
 use Rattle.buffer.specs.Zeros.{zeros}
 use Rattle.text.specs.Writes.{LONGEST}
-use Rattle.run.specs.Runs.{RUN-BYTES, InRun}
+use Rattle.run.specs.Runs.{InRun}
 use Rattle.record.specs.declared.Run.{Run}
 use Rattle.record.specs.Promises.{start}
 use Rattle.descriptors.specs.Moves.{newSource, newSink, sent}
@@ -51,7 +52,7 @@ first-is a b c = rw (a, b, c) refl
 
 -- the memory is cleared, and its size stays
 pub copying-start : (plan : List ℕ) {from to : ℤ} {input output now : List ℕ} {rest : Rest} → rest ≡ first from to → now ≡ zeros (length plan) → length now ≡ length plan → RUN-BYTES ≤ length plan
-    → 74 ≤ length input → LONGEST ≤ length output → length input ≤ BUFFER → length output ≤ BUFFER → Copying from to now input output now input output rest TURNS
+    → LONGEST-RECORD ≤ length input → LONGEST ≤ length output → length input ≤ BUFFER → length output ≤ BUFFER → Copying from to now input output now input output rest TURNS
 copying-start plan {from} {to} {input} {output} {now} {rest} is zero size enough i o few-i few-o =
     let same : now ≡ zeros (length now) = zero ∙ ap zeros (sym size) in
     let ran : InRun now false = subst (λ (l : List ℕ). InRun l false) (sym zero) (cleared (length plan) enough) in

@@ -11,11 +11,10 @@ use borrow.Author.Tests.{ltb-true, ltb-false}
 use lib.Seq.{take-take, drop-append-le, length-take-le}
 use Rattle.meaning.specs.Basics.{if_then_else_}
 use Rattle.buffer.proofs.ListLaws.{drop-take}
-use Rattle.plan.specs.State.{stateOf}
 use Rattle.text.specs.Writes.{LONGEST}
 use Rattle.record.specs.Turns.{wants, turn, isWhole}
 use Rattle.record.specs.declared.Run.{Run}
-use Rattle.record.specs.Promises.{Runs, RunEnd, runEndHere, runEndBehind}
+use Rattle.record.specs.Promises.{houseOf, Runs, RunEnd, runEndHere, runEndBehind}
 use Rattle.record.proofs.Steps.{room-turn-goes, ended-turn-goes, whole-turn-goes}
 use Rattle.pump.specs.Pumps.{PumpPromise}
 use Rattle.pump.specs.declared.Pumped.{Pumped}
@@ -152,18 +151,18 @@ module _ {m : List ℕ} {rest : Rest} {input output after input-left output-left
             part-is = ap₂ (λ (a e : ℕ). drop a (take e input-left)) (same .1) none ∙ at-hand .kept
 
             kind : (b : Bool) → p .full ≡ b → ⊥
-            kind true f = room-turn-goes (stateOf after) (p .run .lines) (h .source .ended) (drop (p .taken) (take (h .end) input-left)) (length output - p .written) room (w .so .steps .stops-full f)
+            kind true f = room-turn-goes (houseOf after) (p .run .lines) (h .source .ended) (drop (p .taken) (take (h .end) input-left)) (length output - p .written) room (w .so .steps .stops-full f)
             kind false f = why (at-hand .idle-why (w .so .read) none)
               where
-                wanting : turn (stateOf after) (p .run .lines) (h .source .ended) (drop (p .taken) (take (h .end) input-left)) (length output - p .written) ≡ wants
+                wanting : turn (houseOf after) (p .run .lines) (h .source .ended) (drop (p .taken) (take (h .end) input-left)) (length output - p .written) ≡ wants
                 wanting = w .so .steps .stops-wanting over f
 
                 why : (h .source .ended ≡ true) ⊎ (isWhole (leftIn rest input) ≡ true) → ⊥
                 why (inl e) =
-                    ended-turn-goes (stateOf after) (p .run .lines) (drop (p .taken) (take (h .end) input-left)) (length output - p .written)
-                    (subst (λ (b : Bool). turn (stateOf after) (p .run .lines) b (drop (p .taken) (take (h .end) input-left)) (length output - p .written) ≡ wants) e wanting)
+                    ended-turn-goes (houseOf after) (p .run .lines) (drop (p .taken) (take (h .end) input-left)) (length output - p .written)
+                    (subst (λ (b : Bool). turn (houseOf after) (p .run .lines) b (drop (p .taken) (take (h .end) input-left)) (length output - p .written) ≡ wants) e wanting)
                 why (inr e) =
-                    whole-turn-goes (stateOf after) (p .run .lines) (h .source .ended) (drop (p .taken) (take (h .end) input-left)) (length output - p .written) (rw part-is e) wanting
+                    whole-turn-goes (houseOf after) (p .run .lines) (h .source .ended) (drop (p .taken) (take (h .end) input-left)) (length output - p .written) (rw part-is e) wanting
 
         go : (b : Bool) → ltb 0 (length (givenIn w) + length (writtenIn w)) ≡ b → 1 ≤ length (givenIn w) + length (writtenIn w)
         go true t = omega (arith, ltb-true 0 (length (givenIn w) + length (writtenIn w)) t)

@@ -8,8 +8,7 @@ use lib.IntN.{ℤ}
 use lib.ListN.{length, take, drop}
 use Rattle.meaning.specs.Records.{fileText, fileEnd}
 use Rattle.buffer.specs.Zeros.{zeros}
-use Rattle.plan.specs.State.{stateOf}
-use Rattle.record.specs.Promises.{start}
+use Rattle.record.specs.Promises.{houseOf, start}
 use Rattle.descriptors.specs.Moves.{newSource, newSink}
 use Rattle.stream.specs.Turnings.{leftOf, Turnable, UnreadTurn, Turning}
 use Rattle.stream.specs.declared.Rest.{Rest}
@@ -70,7 +69,7 @@ pub record CopyPromise (from to : ℤ) (size : ℕ) (first-input first-output af
 -- given, and the sink all that was written. That the system gave and took these very bytes no promise says (docs/PROMISES.md).
 pub record WholeFile (given written after : List ℕ) (e : Ending) : Type 0 where
   pub text-is : (more : List ℕ) → (e .rest .source .ended ≡ true → more ≡ []) → written ≡ fileText (given ++ more)
-  pub end-is : (more : List ℕ) → (e .rest .source .ended ≡ true → more ≡ []) → record { refusal = e .refusal; place = e .place; plan = stateOf after } ≡ fileEnd (given ++ more)
+  pub end-is : (more : List ℕ) → (e .rest .source .ended ≡ true → more ≡ []) → record { refusal = e .refusal; place = e .place; house = houseOf after } ≡ fileEnd (given ++ more)
   pub all-given : e .rest .source .given ≡ length given
   pub all-written : e .rest .sink .written ≡ length written
 

@@ -5,6 +5,7 @@ use mathlib.Core.Logic.{_⊎_}
 use mathlib.Core.Bool.{Bool, true, false, not}
 use mathlib.Core.List.{List}
 use lib.ListN.{length, take, drop}
+use Rattle.meaning.specs.Sizes.{LONGEST-RECORD}
 use Rattle.meaning.specs.Basics.{if_then_else_, writtenOver}
 use Rattle.text.specs.Writes.{LONGEST}
 use Rattle.run.specs.Runs.{InRun}
@@ -41,10 +42,10 @@ SuppliesBy false s left before after hand = (hand ≡ record { end = left; sourc
 abbrev pub SupplyPromise : Source → ℕ → List ℕ → List ℕ → AtHand → Type 0
 SupplyPromise s left before after hand = SuppliesBy (mustRead s (take left before)) s left before after hand
 
--- what a read asks, should one be made: the longest record has 74 bytes, so that there is room for a byte
+-- what a read asks, should one be made: there is room for the longest record, and so for a byte
 pub record Suppliable (s : Source) (left : ℕ) (input : List ℕ) : Type 0 where
   pub inside : left ≤ length input
-  pub enough : 74 ≤ length input
+  pub enough : LONGEST-RECORD ≤ length input
   pub not-failed : s .failed ≡ false
   pub counted : s .given + length input ≤ MOST
 
@@ -56,7 +57,7 @@ GatherPromise rest input input-left hand = SupplyPromise (rest .source) (leftOf 
 pub record Gatherable (rest : Rest) (input : ℕ) : Type 0 where
   pub placed : rest .at ≤ rest .end
   pub inside : rest .end ≤ input
-  pub enough : 74 ≤ input
+  pub enough : LONGEST-RECORD ≤ input
   pub not-failed : rest .source .failed ≡ false
   pub counted : rest .source .given + input ≤ MOST
 

@@ -4,10 +4,10 @@ ghost use mathlib.Core.Path.{_≡_};
 ghost use mathlib.Core.Bool.{false};
 ghost use Prim.Native.Nat.{_+_, _-_, _≤_};
 ghost use lib.ListN.{length, take, drop};
+ghost use Rattle.meaning.specs.Sizes.{LONGEST-RECORD, RUN-BYTES};
 ghost use Rattle.meaning.specs.Basics.{writtenOver};
 ghost use Rattle.buffer.specs.Zeros.{zeros};
 ghost use Rattle.text.specs.Writes.{LONGEST};
-ghost use Rattle.run.specs.Runs.{RUN-BYTES};
 ghost use Rattle.record.specs.Promises.{start};
 ghost use Rattle.descriptors.specs.Moves.{MOST, WritePromise};
 ghost use Rattle.stream.specs.Turnings.{SupplyPromise, Suppliable, GatherPromise, Gatherable, unreadOf, turnedBy, AdvancePromise, Advanceable, Turnable, TurnPromise};
@@ -177,7 +177,7 @@ fn turn(plan: &mut [u8], rest: Rest, input: &mut [u8], output: &mut [u8]) -> Tur
 
 // Writes to one descriptor the lines of the house records that another gives, to its end or until reading has ended.
 pub fn copy(from: i32, to: i32, plan: &mut [u8], input: &mut [u8], output: &mut [u8]) -> Turned
-    requires { ⌜ (RUN-BYTES ≤ length (now plan)) × (74 ≤ length (now input)) × (LONGEST ≤ length (now output)) ⌝ }
+    requires { ⌜ (RUN-BYTES ≤ length (now plan)) × (LONGEST-RECORD ≤ length (now input)) × (LONGEST ≤ length (now output)) ⌝ }
     requires { ⌜ (length (now input) ≤ BUFFER) × (length (now output) ≤ BUFFER) ⌝ }
     ensures { λ r. ⌜ CopyPromise from to (length (now (plan .entry))) (now (input .entry)) (now (output .entry)) (now (plan .exit)) (now (input .exit)) (now (output .exit)) r ⌝ }
 {

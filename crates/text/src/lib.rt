@@ -17,6 +17,7 @@ use meaning::Answered;
 use meaning::Counted;
 use meaning::ListedRule;
 use meaning::Provisioned;
+use meaning::refusals::ACCEPTED;
 
 // The most bytes of a line.
 pub const LONGEST_LINE: usize = 41;
@@ -258,7 +259,7 @@ pub fn number_line(answer: Answered, digits: &[u8], out: &mut [u8]) -> usize
     requires { ⌜ NumberIn answer (now digits) × (LONGEST ≤ length (now out)) ⌝ }
     ensures { λ r. ⌜ Writes (numberLine (answerIn answer (now (digits .entry)))) (now (out .entry)) (now (out .exit)) r ⌝ }
 {
-    if answer.refusal != 0 {
+    if answer.refusal != ACCEPTED {
         return no_line(answer.refusal, out);
     }
     write_head(

@@ -4,20 +4,20 @@ use mathlib.Core.Path.{_≡_, refl, ap, sym, _∙_}
 use mathlib.Core.Logic.{_≢_}
 use native.Mathlib.Omega.{arith}
 use borrow.Author.Needs.{needs}
-use Rattle.meaning.specs.Calls.{bodyLength}
+use Rattle.meaning.specs.Calls.{LIST, bodyLength}
 use Rattle.changes.proofs.body_length.Statement.{statement}
 use Rattle.changes.proofs.body_length.Tie as tie
 
--- no byte from 9 on fixes a body
+-- no byte from the listing on fixes a body
 none-from : (j : ℕ) → bodyLength (suc (suc (suc (suc (suc (suc (suc (suc (suc j))))))))) ≡ 0
 unfolding bodyLength
 none-from zero = refl
 none-from (suc j) = refl
 
-none-behind : (k : ℕ) → 9 ≤ k → 0 ≡ bodyLength k
+none-behind : (k : ℕ) → LIST ≤ k → 0 ≡ bodyLength k
 none-behind k h =
-    let e : k ≡ suc (suc (suc (suc (suc (suc (suc (suc (suc (k - 9))))))))) = omega arith in
-    sym (ap bodyLength e ∙ none-from (k - 9))
+    let e : k ≡ suc (suc (suc (suc (suc (suc (suc (suc (suc (k - LIST))))))))) = omega arith in
+    sym (ap bodyLength e ∙ none-from (k - LIST))
 
 up : {n k : ℕ} → n ≤ k → k ≢ n → n + 1 ≤ k
 up h d = omega arith

@@ -9,6 +9,7 @@ use Rattle.meaning.specs.Actions.{casOf}
 use Rattle.meaning.specs.Conditioning.{short}
 use Rattle.actions.specs.Reading.{actionOf}
 use Rattle.actions.proofs.Reading.{stop, step}
+use Rattle.conditioning.specs.Marks.{PLACES}
 use Rattle.conditioning.proofs.Walk.{enough}
 use Rattle.conditioning.proofs.Marking.{Marking, marking-none, marking-all, marking-more}
 use Rattle.conditioning.proofs.mark_spans.Statement.{statement}
@@ -16,7 +17,7 @@ use Rattle.conditioning.proofs.mark_spans.Tie as tie
 
 abbrev Inv-loop : tie.InvT-loop
 Inv-loop cas prefix n first starts₀ counts₀ taken₀ left₀ i₀ starts counts taken left i =
-    (i ≤ length cas) × (taken + left ≡ n) × (short prefix left (casOf (drop i cas)) ≡ short prefix n (casOf cas)) × (length starts ≡ 17) × (length counts ≡ 17)
+    (i ≤ length cas) × (taken + left ≡ n) × (short prefix left (casOf (drop i cas)) ≡ short prefix n (casOf cas)) × (length starts ≡ PLACES) × (length counts ≡ PLACES)
     × Marking first prefix n (casOf cas) taken left (casOf (drop i cas)) starts counts
 
 abbrev μ-loop : tie.MeasureT-loop

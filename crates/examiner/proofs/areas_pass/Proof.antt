@@ -2,6 +2,7 @@
 use mathlib.Core.Path.{sym, _∙_}
 use Prim.Native.Nat.{_*_}
 use mathlib.Core.Bool.{and-true}
+use Rattle.meaning.specs.Sizes.{RULE-WIDTH}
 use Rattle.meaning.proofs.Tests.{all-false, true-is}
 use Rattle.buffer.specs.Slots.{slots}
 use Rattle.buffer.proofs.SlotLaws.{wide-slots}
@@ -35,9 +36,9 @@ rules-rise-requires : tie.Need-rules-rise-requires
 rules-rise-requires c κs =
     let g = c .before .before .before .before .before .before in
     let a = g .args in
-    let wide = wide-slots 24 (a .count) (a .rules .now) (g .pre .rule-slots) in
+    let wide = wide-slots RULE-WIDTH (a .count) (a .rules .now) (g .pre .rule-slots) in
     let all-passed = true-is _ (passed (c .before .rules-pass .ensures) (c .if2 .left)) in
-    record { few = g .pre .few; room = g .pre .rule-slots; prefixes = prefixes-fit (a .room) (a .sets .now) (slots 24 (a .count) (a .rules .now)) wide all-passed }
+    record { few = g .pre .few; room = g .pre .rule-slots; prefixes = prefixes-fit (a .room) (a .sets .now) (slots RULE-WIDTH (a .count) (a .rules .now)) wide all-passed }
 
 returns-3 : tie.Need-returns-3
 unfolding areasPass
@@ -67,7 +68,7 @@ returns-4 c =
     let a = d .before .before .before .before .before .before .before .args in
     let all-passed = d .before .before in
     c .all-zero .ensures
-    ∙ rw (rest-is (a .rules .now) (24 * a .count))
+    ∙ rw (rest-is (a .rules .now) (RULE-WIDTH * a .count))
     (sym (rw (
       passed (all-passed .before .before .slots-pass .ensures) (all-passed .before .if1 .left),
       passed (all-passed .rules-pass .ensures) (d .before .if2 .left),

@@ -2,6 +2,7 @@
 use mathlib.Core.Path.{sym, _∙_}
 use mathlib.Core.Bool.{and-true}
 use borrow.Author.Tests.{le-leb, lt-leb}
+use Rattle.meaning.specs.Sizes.{SETS-AT}
 use Rattle.meaning.proofs.Tests.{all-false}
 use Rattle.examiner.specs.Examined.{headerTests, headerPasses}
 use Rattle.examiner.proofs.Answers.{failed, passed}
@@ -11,7 +12,7 @@ use Rattle.examiner.proofs.header_passes.Tie as tie
 
 returns : tie.Need-returns
 unfolding headerPasses
-returns c = sym (all-false 0 (headerTests (c .before .before .args .memory .now)) (lt-leb 64 _ (c .if1 .taken)))
+returns c = sym (all-false 0 (headerTests (c .before .before .args .memory .now)) (lt-leb SETS-AT _ (c .if1 .taken)))
 
 fixed-pass-requires : tie.Need-fixed-pass-requires
 fixed-pass-requires c κs = search needs
@@ -38,7 +39,7 @@ returns-4 c =
     let d = c .before .before in
     c .sizes-pass .ensures
     ∙ sym (rw (
-      le-leb 64 _ (d .before .before .before .if1 .left),
+      le-leb SETS-AT _ (d .before .before .before .if1 .left),
       passed (d .before .before .fixed-pass .ensures) (d .before .if2 .left),
       passed (d .opening-passes .ensures) (c .before .if3 .left),
       and-true,

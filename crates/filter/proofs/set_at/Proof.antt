@@ -1,8 +1,8 @@
 -- The set number stands at its place in the slot.
 use mathlib.Core.Path.{sym, ap, _∙_}
 use Prim.Native.Nat.{_*_}
+use Rattle.meaning.specs.Sizes.{RULE-WIDTH}
 use Rattle.meaning.specs.Answers.{setOf}
-use Rattle.filter.specs.Slots.{RULE-WIDTH}
 use Rattle.filter.proofs.RuleLaws.{set-read}
 use borrow.Author.Needs.{needs}
 use Rattle.filter.proofs.set_at.Statement.{statement}

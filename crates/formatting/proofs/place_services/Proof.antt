@@ -1,8 +1,11 @@
 -- At f the values of the codes below are there (`Serving`).
-use Prim.Native.Nat.{_-_, _≤_}
+use Prim.Native.Nat.{_+_, _-_, _≤_}
 use mathlib.Core.Path.{_≡_}
 use native.Mathlib.Omega.{arith}
 use lib.ListN.{length}
+use Rattle.conditioning.specs.Marks.{PLACES}
+use Rattle.formatting.specs.Sources.{SOURCE-BYTES}
+use Rattle.meaning.specs.Actions.{RN, DELIMITER-B}
 use Rattle.formatting.specs.Tables.{valueAt}
 use Rattle.formatting.proofs.Tables.{Serving, serving-none, serving-more, serving-all}
 use borrow.Author.Needs.{needs}
@@ -11,10 +14,10 @@ use Rattle.formatting.proofs.place_services.Tie as tie
 
 abbrev Inv-loop : tie.InvT-loop
 Inv-loop source served starts₀ counts₀ f₀ starts counts f =
-    (11 ≤ f) × (f ≤ 17) × (length source ≡ 144) × (length starts ≡ 17) × (length counts ≡ 17) × Serving (valueAt source starts₀ counts₀) served source starts counts f
+    (RN ≤ f) × (f ≤ DELIMITER-B + 1) × (length source ≡ SOURCE-BYTES) × (length starts ≡ PLACES) × (length counts ≡ PLACES) × Serving (valueAt source starts₀ counts₀) served source starts counts f
 
 abbrev μ-loop : tie.MeasureT-loop
-μ-loop source served starts₀ counts₀ f₀ starts counts f = 17 - f
+μ-loop source served starts₀ counts₀ f₀ starts counts f = DELIMITER-B + 1 - f
 
 loop-holds : tie.Need-loop-holds Inv-loop μ-loop
 loop-holds c =

@@ -1,6 +1,8 @@
 -- By the lookup's kind.
+use Prim.Native.Nat.{_-_}
 use mathlib.Core.Path.{sym, ap, _∙_}
 use native.Mathlib.Omega.{arith}
+use Rattle.meaning.specs.Sizes.{SETTINGS-BYTES, LOOKUP-AT, LOOKUP-BYTES, VALUE-BYTES}
 use Rattle.formatting.specs.Values.{digitsIf}
 use Rattle.formatting.specs.Sources.{settingsIn, lookupIn}
 use Rattle.formatting.proofs.Values.{rn-entity, rn-default, rn-none}
@@ -19,7 +21,7 @@ returns : tie.Need-returns
 returns c =
     let a = c .before .before .before .before .args in
     let s = a .source .now in
-    let e = ap (digitsIf (a .ported)) (sym (part-within 1 16 34 39 s (omega arith))) ∙ rn-entity (settingsIn s) (lookupIn s) (a .ported) (kind-in s ∙ c .before .if1 .taken) in
+    let e = ap (digitsIf (a .ported)) (sym (part-within 1 16 LOOKUP-AT LOOKUP-BYTES s (omega arith))) ∙ rn-entity (settingsIn s) (lookupIn s) (a .ported) (kind-in s ∙ c .before .if1 .taken) in
     lies-as e (c .string-if .ensures)
 
 string-if-requires-2 : tie.Need-string-if-requires-2
@@ -29,7 +31,7 @@ returns-2 : tie.Need-returns-2
 returns-2 c =
     let a = c .before .before .before .before .before .args in
     let s = a .source .now in
-    let e = ap (digitsIf (a .ported)) (sym (part-within 4 16 73 36 s (omega arith))) ∙ rn-default (settingsIn s) (lookupIn s) (a .ported) (kind-in s ∙ c .before .if2 .taken) in
+    let e = ap (digitsIf (a .ported)) (sym (part-within 4 16 VALUE-BYTES SETTINGS-BYTES s (omega arith))) ∙ rn-default (settingsIn s) (lookupIn s) (a .ported) (kind-in s ∙ c .before .if2 .taken) in
     lies-as e (c .string-if2 .ensures)
 
 returns-3 : tie.Need-returns-3

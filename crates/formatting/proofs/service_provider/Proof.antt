@@ -1,6 +1,8 @@
 -- By the lookup's kind.
+use Prim.Native.Nat.{_-_}
 use mathlib.Core.Path.{sym, ap, _∙_}
 use native.Mathlib.Omega.{arith}
+use Rattle.meaning.specs.Sizes.{LOOKUP-AT, LOOKUP-BYTES}
 use Rattle.formatting.specs.Values.{digitsIf}
 use Rattle.formatting.specs.Sources.{lookupIn}
 use Rattle.formatting.proofs.Values.{sp-entity, sp-none}
@@ -19,7 +21,7 @@ returns : tie.Need-returns
 returns c =
     let a = c .before .before .before .before .args in
     let s = a .source .now in
-    let e = ap (digitsIf (a .ported)) (sym (part-within 1 16 34 39 s (omega arith))) ∙ sp-entity (lookupIn s) (a .ported) (kind-in s ∙ c .before .if1 .taken) in
+    let e = ap (digitsIf (a .ported)) (sym (part-within 1 16 LOOKUP-AT LOOKUP-BYTES s (omega arith))) ∙ sp-entity (lookupIn s) (a .ported) (kind-in s ∙ c .before .if1 .taken) in
     lies-as e (c .string-if .ensures)
 
 returns-2 : tie.Need-returns-2

@@ -3,6 +3,8 @@ use Prim.Native.Nat.{_-_, _≤_}
 use mathlib.Core.Path.{sym, ap}
 use native.Mathlib.Omega.{arith}
 use lib.ListN.{List·getD-eq-default}
+use Rattle.meaning.specs.Sizes.{SETTINGS-BYTES, LOOKUP-AT, LOOKUP-BYTES, VALUE-BYTES}
+use Rattle.meaning.specs.Actions.{RN}
 use Rattle.meaning.specs.Basics.{digitsOf}
 use Rattle.meaning.specs.Settings.{settingsOf, lookupOf}
 use Rattle.formatting.specs.Values.{digitsIf, serviceValue}
@@ -42,32 +44,32 @@ returns-3 : tie.Need-returns-3
 unfolding serviceValue lookupOf
 returns-3 c =
     let a = c .before .before .before .args in
-    rw (c .before .match .keys3) (lies-as (ap (digitsIf (a .served .asd)) (sym (part-within 17 11 34 39 (a .source .now) (omega arith)))) (c .string-if .ensures))
+    rw (c .before .match .keys3) (lies-as (ap (digitsIf (a .served .asd)) (sym (part-within 17 11 LOOKUP-AT LOOKUP-BYTES (a .source .now) (omega arith)))) (c .string-if .ensures))
 
 returns-4 : tie.Need-returns-4
 unfolding serviceValue lookupOf
 returns-4 c =
     let a = c .before .before .before .args in
-    rw (c .before .match .keys4) (lies-as (ap (digitsIf (a .served .grn)) (sym (part-within 28 11 34 39 (a .source .now) (omega arith)))) (c .string-if2 .ensures))
+    rw (c .before .match .keys4) (lies-as (ap (digitsIf (a .served .grn)) (sym (part-within 28 11 LOOKUP-AT LOOKUP-BYTES (a .source .now) (omega arith)))) (c .string-if2 .ensures))
 
 returns-5 : tie.Need-returns-5
 unfolding serviceValue settingsOf
 returns-5 c =
     let a = c .before .before .before .args in
-    rw (c .before .match .keys5) (lies-as (ap digitsOf (sym (part-within 20 6 73 36 (a .source .now) (omega arith)))) (c .string-at .ensures))
+    rw (c .before .match .keys5) (lies-as (ap digitsOf (sym (part-within 20 6 VALUE-BYTES SETTINGS-BYTES (a .source .now) (omega arith)))) (c .string-at .ensures))
 
 returns-6 : tie.Need-returns-6
 unfolding serviceValue settingsOf
 returns-6 c =
     let a = c .before .before .before .args in
-    rw (c .before .match .keys6) (lies-as (ap digitsOf (sym (part-within 26 6 73 36 (a .source .now) (omega arith)))) (c .string-at2 .ensures))
+    rw (c .before .match .keys6) (lies-as (ap digitsOf (sym (part-within 26 6 VALUE-BYTES SETTINGS-BYTES (a .source .now) (omega arith)))) (c .string-at2 .ensures))
 
 returns-7 : tie.Need-returns-7
 unfolding serviceValue
 returns-7 c =
     let a = c .before .before .args in
     let r = c .match .rest in
-    let h : 6 ≤ a .f - 11 = past-values _ (c .before .before .pre .1) (r .0 .0 .0 .0 .0 .1) (r .0 .0 .0 .0 .1) (r .0 .0 .0 .1) (r .0 .0 .1) (r .0 .1) (r .1) in
+    let h : 6 ≤ a .f - RN = past-values _ (c .before .before .pre .1) (r .0 .0 .0 .0 .0 .1) (r .0 .0 .0 .0 .1) (r .0 .0 .0 .1) (r .0 .0 .1) (r .0 .1) (r .1) in
     rw List·getD-eq-default (nothing-lies (a .source .now))
 
 pub service-value-spec : {M : Type 1} → statement M

@@ -4,12 +4,12 @@ use mathlib.Core.Path.{_≡_}
 use native.Mathlib.Omega.{arith}
 use lib.ListN.{List·getD-eq-default}
 use borrow.Author.Needs.{needs}
-use Rattle.meaning.specs.Calls.{removeRule}
+use Rattle.meaning.specs.Calls.{removeRule, REMOVE-RULE}
 use Rattle.meaning.specs.Records.{operationOf}
 use Rattle.history.proofs.carry_out.Statement.{statement}
 use Rattle.history.proofs.carry_out.Tie as tie
 
-past-table : (k : ℕ) → 6 ≤ k → operationOf k ≡ removeRule
+past-table : (k : ℕ) → REMOVE-RULE ≤ k → operationOf k ≡ removeRule
 unfolding operationOf
 past-table k h = rw List·getD-eq-default
 
@@ -83,7 +83,7 @@ returns-7 : tie.Need-returns-7
 returns-7 c =
     let r = c .before .before .before .before .match .rest in
     let k = c .before .before .before .before .before .before .before .args .kind in
-    let h : 6 ≤ k = omega (arith, r .0 .0 .0 .0 .0 .1, r .0 .0 .0 .0 .1, r .0 .0 .0 .1, r .0 .0 .1, r .0 .1, r .1) in
+    let h : REMOVE-RULE ≤ k = omega (arith, r .0 .0 .0 .0 .0 .1, r .0 .0 .0 .0 .1, r .0 .0 .0 .1, r .0 .0 .1, r .0 .1, r .1) in
     rw (past-table k h) (c .before .before .remove-rule .ensures)
 
 pub carry-out-spec : {M : Type 1} → statement M

@@ -2,7 +2,7 @@
 use mathlib.Core.Path.{sym, _∙_}
 use native.Mathlib.Omega.{arith}
 use borrow.Author.Needs.{needs}
-use borrow.Author.Tests.{le-leb, lt-leb}
+use borrow.Author.Tests.{not-true, not-false}
 use Rattle.history.proofs.Going.{none-past, whole-is}
 use Rattle.history.proofs.is_whole.Statement.{statement}
 use Rattle.history.proofs.is_whole.Tie as tie
@@ -13,10 +13,13 @@ returns c = sym (none-past _ _ (c .if1 .taken))
 shared-slice-read-kind : tie.Need-shared-slice-read-kind
 shared-slice-read-kind c = search needs
 
+is-call-requires : tie.Need-is-call-requires
+is-call-requires c κs = search needs
+
 returns-2 : tie.Need-returns-2
 returns-2 c =
-    let a = c .before .before .before .before .args in
-    sym (whole-is (a .calls .now) (a .at) (omega arith) ∙ rw (lt-leb _ 6 (c .if2 .taken)))
+    let a = c .before .before .before .before .before .args in
+    sym (whole-is (a .calls .now) (a .at) (omega arith) ∙ rw (sym (c .before .is-call .ensures) ∙ not-true _ (c .if2 .taken)))
 
 add-body : tie.Need-add-body
 add-body c = search needs
@@ -29,8 +32,10 @@ sub-result c = search needs
 
 returns-3 : tie.Need-returns-3
 returns-3 c =
-    let a = c .before .before .before .before .before .args in
-    sym (whole-is (a .calls .now) (a .at) (omega arith) ∙ rw (le-leb _ 6 (c .before .if2 .left), c .body-length .ensures .is))
+    let a = c .before .before .before .before .before .before .args in
+    sym
+    (whole-is (a .calls .now) (a .at) (omega arith)
+    ∙ rw (sym (c .before .before .is-call .ensures) ∙ not-false _ (c .before .if2 .left), c .body-length .ensures .is))
 
 pub is-whole-spec : {M : Type 1} → statement M
 is-whole-spec =
@@ -38,6 +43,7 @@ is-whole-spec =
     (tie.spec
     returns
     shared-slice-read-kind
+    is-call-requires
     returns-2
     add-body
     body-length-requires

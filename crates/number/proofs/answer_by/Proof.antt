@@ -2,6 +2,7 @@
 use mathlib.Core.Path.{refl, sym, _∙_}
 use native.Mathlib.Omega.{arith}
 use lib.ListN.{getD}
+use Rattle.meaning.specs.Sizes.{DIALLED-DIGITS-AT}
 use Rattle.conditioning.proofs.Marking.{markable-anew}
 use Rattle.formatting.proofs.Places.{digits-long}
 use Rattle.formatting.proofs.Tables.{marks-formattable, marked-outgoing}
@@ -41,7 +42,7 @@ slice-aggregate-mark-spans-2 : tie.Need-slice-aggregate-mark-spans-2
 slice-aggregate-mark-spans-2 c = search needs
 
 mark-spans-requires : tie.Need-mark-spans-requires
-mark-spans-requires c κs = let g = c .before .before .before .before .before .before .before .before .before .before .before .before in markable-anew (g .args .n) 2 (omega arith) (omega (arith, g .pre .few))
+mark-spans-requires c κs = let g = c .before .before .before .before .before .before .before .before .before .before .before .before in markable-anew (g .args .n) DIALLED-DIGITS-AT (omega arith) (omega (arith, g .pre .few))
 
 refused-requires : tie.Need-refused-requires
 refused-requires c κs = search needs

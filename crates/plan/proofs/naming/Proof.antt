@@ -5,13 +5,14 @@ use mathlib.Core.Logic.{⊎-elim}
 use native.Mathlib.Omega.{arith}
 use lib.ListN.{length}
 use borrow.Author.Needs.{needs}
+use Rattle.meaning.specs.Sizes.{RULE-WIDTH}
 use Rattle.meaning.specs.declared.SetNumber.{SetNumber}
 use Rattle.plan.proofs.ReadLaws.{Counting, counting-none, counting-named, counting-other, counting-all}
 use Rattle.plan.proofs.naming.Statement.{statement}
 use Rattle.plan.proofs.naming.Tie as tie
 
 abbrev Inv-loop : tie.InvT-loop
-Inv-loop area held wanted n₀ i₀ n i = (i ≤ held) × (held ≤ 4096) × (24 * held ≤ length area) × (n ≤ i) × Counting wanted area held i n
+Inv-loop area held wanted n₀ i₀ n i = (i ≤ held) × (held ≤ 4096) × (RULE-WIDTH * held ≤ length area) × (n ≤ i) × Counting wanted area held i n
 
 abbrev μ-loop : tie.MeasureT-loop
 μ-loop area held wanted n₀ i₀ n i = held - i

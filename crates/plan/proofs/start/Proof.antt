@@ -1,6 +1,7 @@
 -- The bytes behind the header are cleared, and the header is written.
 use Prim.Native.Nat.{ℕ, _+_, _*_}
 use native.Mathlib.Omega.{arith}
+use Rattle.meaning.specs.Sizes.{SETS-AT, SET-WIDTH, RULE-WIDTH}
 use Rattle.meaning.specs.Settings.{roomsOf, bytesNeeded}
 use Rattle.plan.proofs.EditLaws.{started}
 use borrow.Author.Needs.{needs}
@@ -62,7 +63,7 @@ returns c =
     let rules = clear .before .before in
     let sets = rules .before in
     let g = sets .before .before .before .before in
-    let size : ℕ = 64 + 48 * sets .word .result + 24 * rules .word2 .result in
+    let size : ℕ = SETS-AT + SET-WIDTH * sets .word .result + RULE-WIDTH * rules .word2 .result in
     let sets-is = sets .word .ensures .is in
     let rules-is = rules .word2 .ensures .is in
     started (g .args .rooms .now) (g .args .settings .now) (g .args .memory .now) (clear .clear .last .0) (header .write-header .last .0) size

@@ -7,13 +7,13 @@ use lib.ListN.{getD}
 use borrow.Author.Needs.{needs}
 use borrow.Author.Tests.{not-true, not-false}
 use Rattle.meaning.specs.Settings.{isOutgoingClass}
-use Rattle.meaning.specs.Actions.{caBytes, saBytes, faBytes, casInRange, codesInRange, contentInRange}
+use Rattle.meaning.specs.Actions.{DELIMITER-B, CDIAL, caBytes, saBytes, faBytes, casInRange, codesInRange, contentInRange}
 use Rattle.meaning.proofs.Tests.{all-false}
 use Rattle.ranges.proofs.content_in_range.Statement.{statement}
 use Rattle.ranges.proofs.content_in_range.Tie as tie
 
 abbrev parts : List ℕ → List Bool
-parts b = isOutgoingClass (getD b 0 0) ∷ casInRange (caBytes b) ∷ codesInRange 5 (saBytes b) ∷ codesInRange 16 (faBytes b) ∷ []
+parts b = isOutgoingClass (getD b 0 0) ∷ casInRange (caBytes b) ∷ codesInRange CDIAL (saBytes b) ∷ codesInRange DELIMITER-B (faBytes b) ∷ []
 
 shared-slice-read-is-outgoing-class : tie.Need-shared-slice-read-is-outgoing-class
 shared-slice-read-is-outgoing-class c = search needs

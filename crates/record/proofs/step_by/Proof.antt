@@ -1,5 +1,7 @@
 -- Each way out is the turn's.
+use mathlib.Core.Path.{sym, _∙_}
 use borrow.Author.Needs.{needs}
+use borrow.Author.Tests.{not-true, not-false}
 use Rattle.record.proofs.StepLines.{nothing-ends, nothing-wants, no-room, unknown-ends, cut-step, body-lent, whole-step}
 use Rattle.record.proofs.step_by.Statement.{statement}
 use Rattle.record.proofs.step_by.Tie as tie
@@ -16,6 +18,9 @@ returns-3 c = let b = c .before .before .before .before .before .before in no-ro
 shared-slice-read-kind : tie.Need-shared-slice-read-kind
 shared-slice-read-kind c = search needs
 
+is-kind-requires : tie.Need-is-kind-requires
+is-kind-requires c κs = search needs
+
 no-line-requires : tie.Need-no-line-requires
 no-line-requires c κs = search needs
 
@@ -24,8 +29,9 @@ same-length c = search needs
 
 returns-4 : tie.Need-returns-4
 returns-4 c =
-    let b = c .before .before .before .before .before .before .before .before .before .before .before .before in
-    unknown-ends (b .args .plan .now) (b .args .run .lines) (b .args .ended) (b .args .input .now) (b .args .output .now) (c .before .before .before .before .before .before .before .if1 .left) (c .before .before .before .before .before .before .if3 .left) (c .before .before .before .before .if4 .taken) (c .before .before .no-line .ensures)
+    let b = c .before .before .before .before .before .before .before .before .before .before .before .before .before in
+    unknown-ends (b .args .plan .now) (b .args .run .lines) (b .args .ended) (b .args .input .now) (b .args .output .now) (c .before .before .before .before .before .before .before .before .if1 .left) (c .before .before .before .before .before .before .before .if3 .left)
+    (sym (c .before .before .before .before .before .is-kind .ensures) ∙ not-true _ (c .before .before .before .before .if4 .taken)) (c .before .before .no-line .ensures)
 
 body-length-requires : tie.Need-body-length-requires
 body-length-requires c κs = search needs
@@ -41,8 +47,9 @@ same-length-2 c = search needs
 
 returns-5 : tie.Need-returns-5
 returns-5 c =
-    let b = c .before .before .before .before .before .before .before .before .before .before .before .before .before .before in
-    cut-step (b .args .plan .now) (b .args .run .lines) (b .args .ended) (b .args .input .now) (b .args .output .now) (c .before .before .before .before .before .before .before .before .before .if1 .left) (c .before .before .before .before .before .before .before .before .if3 .left) (c .before .before .before .before .before .before .if4 .left) _ (c .before .before .before .before .before .body-length .ensures .is) (c .before .before .before .before .if5 .taken) (c .before .before .cut-record .ensures)
+    let b = c .before .before .before .before .before .before .before .before .before .before .before .before .before .before .before in
+    cut-step (b .args .plan .now) (b .args .run .lines) (b .args .ended) (b .args .input .now) (b .args .output .now) (c .before .before .before .before .before .before .before .before .before .before .if1 .left) (c .before .before .before .before .before .before .before .before .before .if3 .left)
+    (sym (c .before .before .before .before .before .before .before .is-kind .ensures) ∙ not-false _ (c .before .before .before .before .before .before .if4 .left)) _ (c .before .before .before .before .before .body-length .ensures .is) (c .before .before .before .before .if5 .taken) (c .before .before .cut-record .ensures)
 
 sub-whole-record : tie.Need-sub-whole-record
 sub-whole-record c = search needs
@@ -55,11 +62,12 @@ part-whole-record-end c = search needs
 
 whole-record-requires : tie.Need-whole-record-requires
 whole-record-requires c κs =
-    let b = c .before .before .before .before .before .before .before .before .before .before .before .before .before in (
+    let b = c .before .before .before .before .before .before .before .before .before .before .before .before .before .before in
+    let known = sym (c .before .before .before .before .before .before .is-kind .ensures) ∙ not-false _ (c .before .before .before .before .before .if4 .left) in (
       b .pre .0,
-      c .before .before .before .before .before .if4 .left,
-      body-lent (b .args .plan .now) (b .args .run .lines) (b .args .ended) (b .args .input .now) (b .args .output .now) (c .before .before .before .before .before .before .before .before .if1 .left) (c .before .before .before .before .before .before .before .if3 .left) (c .before .before .before .before .before .if4 .left) _ (c .before .before .before .before .body-length .ensures .is) (c .before .before .before .if5 .left),
-      c .before .before .before .before .before .before .before .if3 .left,
+      known,
+      body-lent (b .args .plan .now) (b .args .run .lines) (b .args .ended) (b .args .input .now) (b .args .output .now) (c .before .before .before .before .before .before .before .before .before .if1 .left) (c .before .before .before .before .before .before .before .before .if3 .left) known _ (c .before .before .before .before .body-length .ensures .is) (c .before .before .before .if5 .left),
+      c .before .before .before .before .before .before .before .before .if3 .left,
       b .pre .1,
     )
 
@@ -71,8 +79,9 @@ same-length-4 c = search needs
 
 returns-6 : tie.Need-returns-6
 returns-6 c =
-    let b = c .before .before .before .before .before .before .before .before .before .before .before .before .before .before .before .before .before .before in
-    whole-step (b .args .plan .now) (b .args .run .lines) (b .args .ended) (b .args .input .now) (b .args .output .now) (c .before .before .before .before .before .before .before .before .before .before .before .before .before .if1 .left) (c .before .before .before .before .before .before .before .before .before .before .before .before .if3 .left) (c .before .before .before .before .before .before .before .before .before .before .if4 .left) _ (c .before .before .before .before .before .before .before .before .before .body-length .ensures .is) (c .before .before .before .before .before .before .before .before .if5 .left)
+    let b = c .before .before .before .before .before .before .before .before .before .before .before .before .before .before .before .before .before .before .before in
+    whole-step (b .args .plan .now) (b .args .run .lines) (b .args .ended) (b .args .input .now) (b .args .output .now) (c .before .before .before .before .before .before .before .before .before .before .before .before .before .before .if1 .left) (c .before .before .before .before .before .before .before .before .before .before .before .before .before .if3 .left)
+    (sym (c .before .before .before .before .before .before .before .before .before .before .before .is-kind .ensures) ∙ not-false _ (c .before .before .before .before .before .before .before .before .before .before .if4 .left)) _ (c .before .before .before .before .before .before .before .before .before .body-length .ensures .is) (c .before .before .before .before .before .before .before .before .if5 .left)
     (c .before .before .before .before .whole-record .ensures)
 
 pub step-by-spec : {M : Type 1} → statement M
@@ -83,6 +92,7 @@ step-by-spec =
     returns-2
     returns-3
     shared-slice-read-kind
+    is-kind-requires
     no-line-requires
     same-length
     returns-4

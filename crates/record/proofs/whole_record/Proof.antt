@@ -1,13 +1,19 @@
 -- A call, or a record that reads.
+use mathlib.Core.Path.{sym, _∙_}
 use borrow.Author.Needs.{needs}
-use Rattle.plan.specs.State.{stateOf}
 use Rattle.record.specs.Turns.{recordTurn}
+use Rattle.record.specs.Promises.{houseOf}
 use Rattle.record.proofs.CallLines.{kept-line}
 use Rattle.record.proofs.whole_record.Statement.{statement}
 use Rattle.record.proofs.whole_record.Tie as tie
 
+is-call-requires : tie.Need-is-call-requires
+is-call-requires c κs = search needs
+
 call-record-requires : tie.Need-call-record-requires
-call-record-requires c κs = search needs
+call-record-requires c κs =
+    let b = c .before .before .before .before .before .before .before .before in
+    (b .pre .0, sym (c .before .before .before .is-call .ensures) ∙ c .before .before .if1 .taken, b .pre .2, b .pre .3)
 
 same-length : tie.Need-same-length
 same-length c = search needs
@@ -19,7 +25,9 @@ returns : tie.Need-returns
 returns c = search needs
 
 read-record-requires : tie.Need-read-record-requires
-read-record-requires c κs = search needs
+read-record-requires c κs =
+    let b = c .before .before .before .before .before .before .before .before in
+    (b .pre .0 .state, sym (c .before .before .before .is-call .ensures) ∙ c .before .before .if1 .left, b .pre .1, b .pre .2, b .pre .3, b .pre .4)
 
 same-length-3 : tie.Need-same-length-3
 same-length-3 c = search needs
@@ -29,13 +37,14 @@ same-length-4 c = search needs
 
 returns-2 : tie.Need-returns-2
 returns-2 c =
-    let b = c .before .before .before .before .before .before .before .before .before .before in
-    kept-line {t = recordTurn (stateOf (b .args .plan .now)) (b .args .run .lines) (b .args .kind) (b .args .body .now)} (b .pre .0 .state) (c .before .before .read-record .ensures)
+    let b = c .before .before .before .before .before .before .before .before .before .before .before in
+    kept-line {t = recordTurn (houseOf (b .args .plan .now)) (b .args .run .lines) (b .args .kind) (b .args .body .now)} (b .pre .0 .state) (c .before .before .read-record .ensures)
 
 pub whole-record-spec : {M : Type 1} → statement M
 whole-record-spec =
     tie.close
     (tie.spec
+    is-call-requires
     call-record-requires
     same-length
     same-length-2

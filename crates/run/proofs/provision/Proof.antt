@@ -1,7 +1,5 @@
--- Kind 0 opens; any other call is refused over no plan, and carried out over one.
-use Prim.Native.Nat.{_≤_}
+-- One kind opens; any other call is refused over no plan, and carried out over one.
 use mathlib.Core.Path.{ap, _∙_}
-use native.Mathlib.Omega.{arith}
 use borrow.Author.Needs.{needs}
 use borrow.Author.Tests.{not-true, not-false}
 use Rattle.meaning.specs.Calls.{bodyLength}
@@ -25,13 +23,12 @@ returns-2 : tie.Need-returns-2
 returns-2 c =
     let start = c .before .before .before .before in
     let k = start .args .kind in
-    let other : 1 ≤ k = omega (arith, c .before .if1 .left) in
-    unopened k (start .args .plan .now) (start .args .body .now) other (start .pre .1) (start .pre .2) (start .pre .0 .state ∙ not-true _ (c .if2 .taken))
+    unopened k (start .args .plan .now) (start .args .body .now) (c .before .if1 .left) (start .pre .1) (start .pre .2) (start .pre .0 .state ∙ not-true _ (c .if2 .taken))
 
 change-requires : tie.Need-change-requires
 change-requires c κs =
     let start = c .before .before .before .before .before in
-    (start .pre .0 .state ∙ not-false _ (c .before .if2 .left), omega (arith, c .before .before .if1 .left), start .pre .1, start .pre .2)
+    (start .pre .0 .state ∙ not-false _ (c .before .if2 .left), c .before .before .if1 .left, start .pre .1, start .pre .2)
 
 same-length-2 : tie.Need-same-length-2
 same-length-2 c = search needs

@@ -5,6 +5,7 @@ use mathlib.Core.Logic.{⊎-elim}
 use native.Mathlib.Omega.{arith}
 use lib.ListN.{length}
 use borrow.Author.Tests.{not-true, not-false}
+use Rattle.meaning.specs.Sizes.{RULE-WIDTH}
 use Rattle.meaning.specs.declared.SetNumber.{SetNumber}
 use Rattle.filter.proofs.RuleLaws.{slot-bytes}
 use Rattle.set_changes.proofs.FittingLaws.{Fitting, fitting-none, fitting-other, fitting-misfit, fitting-fits, fitting-all}
@@ -13,7 +14,7 @@ use Rattle.set_changes.proofs.all_fit.Statement.{statement}
 use Rattle.set_changes.proofs.all_fit.Tie as tie
 
 abbrev Inv-loop : tie.InvT-loop
-Inv-loop rules count content wanted i₀ i = (i ≤ count) × (count ≤ 4096) × (24 * count ≤ length rules) × Fitting wanted content rules count i
+Inv-loop rules count content wanted i₀ i = (i ≤ count) × (count ≤ 4096) × (RULE-WIDTH * count ≤ length rules) × Fitting wanted content rules count i
 
 abbrev μ-loop : tie.MeasureT-loop
 μ-loop rules count content wanted i₀ i = count - i
