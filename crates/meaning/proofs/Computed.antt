@@ -40,27 +40,6 @@ everything : ℕ
 unfolding roomsOf roomsInRange bytesNeeded settingsOf settingsInRange lookupOf entityInRange asdOrGrnInRange lookupInRange numberOf numberInRange dialledInRange filterOf filterInRange fitsNumber rank compareFilters firstLargest weight chosenPlace chosen valueOf actionsOf mostOf caInRange contentInRange nothingWithoutCA oneFormat formatStands fpfxFirst oneXAction precedence isBacked formattingBacked groupsHold fpfxMeetsPrefix casFit fit stretchOf valueFrom conditionedFrom atStart responded inprtg rnSet cdpnnp asdlkup grnlkup cdial carryOut eightPlaces valueToSend referrers fresh withSlot withRules contentPasses codePasses rulesFit codesPass sound refused unserved served outgoingClass formatted afterServices answerBy answerOf view answerByView conditionedBy stretchBy listing isKind isCall bodyLength openingLines addSetLines replaceSetLines removeSetLines addRuleLines changeRuleLines removeRuleLines refusal after decimal digitText okLine noLine numberLine refsLine listedLine endLine lacksProgramRoom operationOf recordText recordHouse fileText fileEnd
 everything = 0
 
--- THE SIZES: the sums of specs/Sizes.antt are document 01's numbers, and docs/LAYOUT.md's
-
--- "Kind | Body bytes", 0 to 9, and no other kind has a body
-pub body-bytes : map bodyLength (kinds ++ (10 ∷ 255 ∷ [])) ≡ 40 ∷ 47 ∷ 47 ∷ 2 ∷ 21 ∷ 21 ∷ 19 ∷ 73 ∷ 2 ∷ 0 ∷ 0 ∷ 0 ∷ []
-unfolding everything
-body-bytes = refl
-
--- "64 bytes + 48 a set + 24 a rule of the rooms asked; digit buffer under 35, or 47 for a set's content"
-pub room-asked : (bytesNeeded (record { sets = 0; rules = 0 }) ∷ SET-WIDTH ∷ RULE-WIDTH ∷ DIGIT-ROOM ∷ SET-BODY ∷ []) ≡ 64 ∷ 48 ∷ 24 ∷ 35 ∷ 47 ∷ []
-unfolding everything
-room-asked = refl
-
--- "A program run uses at most 64 sets and 512 rules", the longest record, and the examples' memory
-pub run-asked : (RUN-SETS ∷ RUN-RULES ∷ RUN-BYTES ∷ LONGEST-RECORD ∷ MEMORY ∷ []) ≡ 64 ∷ 512 ∷ 15424 ∷ 74 ∷ 640 ∷ []
-unfolding everything
-run-asked = refl
-
--- the places in a set slot and in the header (docs/LAYOUT.md)
-pub places : (RULES-AT ∷ ROOMS-AT ∷ SETTINGS-AT ∷ SETTINGS-END ∷ SETS-AT ∷ CONTENT-AT ∷ COUNT-AT ∷ []) ≡ 4 ∷ 8 ∷ 12 ∷ 48 ∷ 64 ∷ 1 ∷ 46 ∷ []
-places = refl
-
 -- THE RUN
 
 -- document 01's run writes document 01's nine lines
@@ -68,13 +47,9 @@ pub run-given-whole : fileText run ≡ nineLines
 unfolding everything run nineLines
 run-given-whole = refl
 
--- and comes to its end, behind its 337 bytes; a byte that is no kind, or a record that is cut, ends it there
+-- what ended reading, and where
 abbrev endFields : End → List ℕ
 endFields e = e .refusal ∷ e .place ∷ []
-
-pub ends-of-run : (endFields (fileEnd run) ≡ 0 ∷ 337 ∷ []) × (endFields (fileEnd (run ++ (200 ∷ 9 ∷ []))) ≡ 2 ∷ 337 ∷ []) × (endFields (fileEnd (run ++ (7 ∷ 1 ∷ []))) ≡ 1 ∷ 337 ∷ [])
-unfolding everything run
-ends-of-run = (refl, refl, refl)
 
 -- "KIND before CUT": an unknown kind as the last byte; and the empty file
 pub ends-at-once : (endFields (fileEnd (9 ∷ 9 ∷ 10 ∷ [])) ≡ 2 ∷ 2 ∷ []) × (endFields (fileEnd (3 ∷ 0 ∷ [])) ≡ 1 ∷ 0 ∷ []) × (endFields (fileEnd []) ≡ 0 ∷ 0 ∷ [])
@@ -437,8 +412,6 @@ ordered =
     ∷ row
     (numbersOver MEMORY ((plain ++ (255 ∷ [])) ∷ (s1 0 ++ (255 ∷ [])) ∷ (newRule 1 "" 0 0 ++ (255 ∷ [])) ∷ (removedRule 1 "" 0 ++ (255 ∷ [])) ∷ (removedSet 0 ++ (255 ∷ [])) ∷ []))
     (0 ∷ 0 ∷ 0 ∷ 0 ∷ 0 ∷ []) refl
-    -- ROOM at opening: 64 bytes, 48 a set and 24 a rule; RANGE first
-    ∷ row (numbersOver (MEMORY - 1) (plain ∷ rooms 8 7 ∷ rooms 9 7 ∷ rooms 7 8 ∷ rooms 7 10 ∷ but 5 0 plain ∷ [])) (4 ∷ 0 ∷ 4 ∷ 0 ∷ 4 ∷ 5 ∷ []) refl
     -- a memory of exactly the bytes needed
     ∷ row (numbersOver MEMORY (plain ∷ [])) (0 ∷ []) refl
     -- a number: CUT before PLAN
@@ -737,3 +710,34 @@ large =
     -- "Numbers are written in decimal"
     ∷ row (decimal 1234567890) (ascii "1234567890") refl
     ∷ []
+
+-- THE SIZES: the sums of specs/Sizes.antt are document 01's numbers, and docs/LAYOUT.md's. Whatever moves a width changes rows here, and no other rows: nothing else stands behind this line.
+
+-- "Kind | Body bytes", 0 to 9, and no other kind has a body
+pub body-bytes : map bodyLength (kinds ++ (10 ∷ 255 ∷ [])) ≡ 40 ∷ 47 ∷ 47 ∷ 2 ∷ 21 ∷ 21 ∷ 19 ∷ 73 ∷ 2 ∷ 0 ∷ 0 ∷ 0 ∷ []
+unfolding everything
+body-bytes = refl
+
+-- "64 bytes + 48 a set + 24 a rule of the rooms asked; digit buffer under 35, or 47 for a set's content"
+pub room-asked : (bytesNeeded (record { sets = 0; rules = 0 }) ∷ SET-WIDTH ∷ RULE-WIDTH ∷ DIGIT-ROOM ∷ SET-BODY ∷ []) ≡ 64 ∷ 48 ∷ 24 ∷ 35 ∷ 47 ∷ []
+unfolding everything
+room-asked = refl
+
+-- "A program run uses at most 64 sets and 512 rules", the longest record, and the examples' memory
+pub run-asked : (RUN-SETS ∷ RUN-RULES ∷ RUN-BYTES ∷ LONGEST-RECORD ∷ MEMORY ∷ []) ≡ 64 ∷ 512 ∷ 15424 ∷ 74 ∷ 640 ∷ []
+unfolding everything
+run-asked = refl
+
+-- the places in a set slot and in the header (docs/LAYOUT.md)
+pub places : (RULES-AT ∷ ROOMS-AT ∷ SETTINGS-AT ∷ SETTINGS-END ∷ SETS-AT ∷ CONTENT-AT ∷ COUNT-AT ∷ []) ≡ 4 ∷ 8 ∷ 12 ∷ 48 ∷ 64 ∷ 1 ∷ 46 ∷ []
+places = refl
+
+-- ROOM at opening: "64 bytes + 48 a set + 24 a rule"; RANGE first
+pub room-refused : numbersOver (MEMORY - 1) (plain ∷ rooms 8 7 ∷ rooms 9 7 ∷ rooms 7 8 ∷ rooms 7 10 ∷ but 5 0 plain ∷ []) ≡ 4 ∷ 0 ∷ 4 ∷ 0 ∷ 4 ∷ 5 ∷ []
+unfolding everything
+room-refused = refl
+
+-- document 01's run comes to its end, behind its 337 bytes; a byte that is no kind, or a record that is cut, ends it there
+pub ends-of-run : (endFields (fileEnd run) ≡ 0 ∷ 337 ∷ []) × (endFields (fileEnd (run ++ (200 ∷ 9 ∷ []))) ≡ 2 ∷ 337 ∷ []) × (endFields (fileEnd (run ++ (7 ∷ 1 ∷ []))) ≡ 1 ∷ 337 ∷ [])
+unfolding everything run
+ends-of-run = (refl, refl, refl)
