@@ -8,7 +8,7 @@ use native.Mathlib.Omega.{arith}
 use lib.ListN.{length, take, drop, getD, length-drop, take-append-drop}
 use lib.Seq.{drop-at, drop-drop, length-take-le}
 use lib.Dec.{T, eqb→eq, le→leb}
-use Rattle.meaning.specs.Sizes.{SET-NUMBER-BYTES, CONTENT-BYTES, PREFIX-AT, PREFIX-DIGITS-AT, LENGTH-AT, FILTER-BYTES, RULE-BODY, CONTENT-AT, COUNT-AT, SET-WIDTH, RULE-WIDTH}
+use Rattle.meaning.specs.Sizes.{SET-NUMBER-BYTES, CONTENT-BYTES, PREFIX-AT, PREFIX-DIGITS-AT, LENGTH-AT, FILTER-BYTES, SET-AT, RULE-BODY, CONTENT-AT, COUNT-AT, SET-WIDTH, RULE-WIDTH}
 use Rattle.meaning.specs.Basics.{all, isZero, word, part}
 use Rattle.meaning.specs.Filters.{Filter, filterOf, filterInRange}
 use Rattle.meaning.specs.Rules.{Rule}
@@ -44,14 +44,14 @@ module _ (room : ℕ) (sets s : List ℕ) (size : length s ≡ RULE-WIDTH) (t : 
   unfolding ruleTest ruleOf
   rule-bytes = range-bytes s (omega arith) (all-at 0 (ruleTests room sets s) t)
 
-  unused : drop RULE-BODY s ≡ zeros 3
+  unused : drop RULE-BODY s ≡ zeros (RULE-WIDTH - RULE-BODY)
   unfolding ruleTest
   unused = last-zeros RULE-BODY 3 s size (all-at 1 (ruleTests room sets s) t)
 
   pub rule-image : Bytes s → ruleImage (ruleOf s) ≡ s
   unfolding ruleImage ruleOf
   rule-image h =
-      let behind : wordBytes (word s FILTER-BYTES) ++ zeros 3 ≡ drop FILTER-BYTES s = ap (λ (l : List ℕ). wordBytes (word s FILTER-BYTES) ++ l) (sym unused) ∙ word-again s FILTER-BYTES (omega arith) h in
+      let behind : wordBytes (word s SET-AT) ++ zeros (RULE-WIDTH - RULE-BODY) ≡ drop FILTER-BYTES s = ap (λ (l : List ℕ). wordBytes (word s SET-AT) ++ l) (sym unused) ∙ word-again s FILTER-BYTES (omega arith) h in
       ap (λ (l : List ℕ). take FILTER-BYTES s ++ l) behind ∙ take-append-drop FILTER-BYTES s
 
 -- slots that pass have prefixes of at most 16 digits
@@ -76,8 +76,8 @@ module _ (room : ℕ) (sets : List ℕ) (r : Rule) (c : T (codePasses (r .code))
   none-behind : T (all isZero (part RULE-BODY 3 (ruleImage r)))
   unfolding ruleImage zeros
   none-behind =
-      let x : List ℕ = r .code ++ (wordBytes (r .set) ++ zeros 3) in
-      let three : drop RULE-BODY x ≡ zeros 3 = sym (drop-drop SET-NUMBER-BYTES FILTER-BYTES x) ∙ ap (drop SET-NUMBER-BYTES) (drop-at (r .code) (wordBytes (r .set) ++ zeros 3) FILTER-BYTES code-size) in
+      let x : List ℕ = r .code ++ (wordBytes (r .set) ++ zeros (RULE-WIDTH - RULE-BODY)) in
+      let three : drop RULE-BODY x ≡ zeros (RULE-WIDTH - RULE-BODY) = sym (drop-drop SET-NUMBER-BYTES FILTER-BYTES x) ∙ ap (drop SET-NUMBER-BYTES) (drop-at (r .code) (wordBytes (r .set) ++ zeros (RULE-WIDTH - RULE-BODY)) FILTER-BYTES code-size) in
       rw three tt
 
   pub rule-passes : T (ruleTest room sets (ruleImage r))
@@ -86,7 +86,7 @@ module _ (room : ℕ) (sets : List ℕ) (r : Rule) (c : T (codePasses (r .code))
 
 -- THE SET THAT A RULE NAMES, by what was read: its number n, and the first byte of its slot
 
-module _ (room n : ℕ) (sets s : List ℕ) (n-is : n ≡ word s FILTER-BYTES) where
+module _ (room n : ℕ) (sets s : List ℕ) (n-is : n ≡ word s SET-AT) where
   named : (o : Option (List ℕ)) → getD (slotsOf room sets) n none ≡ o → setFits room sets (ruleOf s) ≡ fitsHeld (filterOf s) o
   unfolding setFits ruleOf
   named o e = rw (← n-is, e) (ap (λ (f : Filter). fitsHeld f o) (filter-in s))

@@ -10,7 +10,7 @@ use native.Mathlib.Nat.{mul-suc, mul-zero, sub-zero}
 use lib.ListN.{length, take, drop, getD, set, replicate, length-append, length-map, length-set, length-drop, List·getD-map}
 use lib.Seq.{take-at, drop-at, take-all, take-append-add, drop-append-add, append-snoc, set-at, drop-length, length-take-le, drop-drop}
 use borrow.Rule.Slice.PartMut.{putMid, midOf, post-is, mid-len}
-use Rattle.meaning.specs.Sizes.{ROOMS-BYTES, SETTINGS-BYTES, CONTENT-BYTES, FILTER-BYTES, SETTINGS-AT, SETTINGS-END, SETS-AT, CONTENT-AT, COUNT-AT, SET-WIDTH, RULE-WIDTH}
+use Rattle.meaning.specs.Sizes.{ROOMS-BYTES, SETTINGS-BYTES, CONTENT-BYTES, FILTER-BYTES, SET-AT, RULE-BODY, SETTINGS-AT, SETTINGS-END, SETS-AT, CONTENT-AT, COUNT-AT, SET-WIDTH, RULE-WIDTH}
 use Rattle.meaning.specs.Basics.{writtenOver}
 use Rattle.meaning.specs.Settings.{roomsOf, bytesNeeded}
 use Rattle.meaning.specs.Rules.{Rule}
@@ -237,12 +237,12 @@ module _ (p : Plan) (s : Sound p) (r : List ℕ) where
         let any : getD rules k [] ≡ getD rules k (ruleImage noRule) = cc in
         ap₂ (λ (n : ℕ) (l : List ℕ). take n l) width area ∙ (here ∙ (any ∙ List·getD-map ruleImage (p .rules) k noRule))
 
-    rule-renamed : (v : ℕ) → withWord (ruleImage (getD (p .rules) k noRule)) FILTER-BYTES v ≡ ruleImage (ruleWith (getD (p .rules) k noRule .code) v)
+    rule-renamed : (v : ℕ) → withWord (ruleImage (getD (p .rules) k noRule)) SET-AT v ≡ ruleImage (ruleWith (getD (p .rules) k noRule .code) v)
     unfolding ruleImage
     rule-renamed v =
         let x : Rule = getD (p .rules) k noRule in
         let size : length (x .code) ≡ FILTER-BYTES = code-size (x .code) (all-place rulePasses (p .rules) noRule k (codes p s) place) in
-        word-between (x .code) (x .set / 256) (x .set % 256) (zeros 3) FILTER-BYTES v size
+        word-between (x .code) (x .set / 256) (x .set % 256) (zeros (RULE-WIDTH - RULE-BODY)) SET-AT v size
 
     slot-replaced : (x : Rule)
         → putMid (rulesAt p + RULE-WIDTH * k) (rulesAt p + RULE-WIDTH * k + RULE-WIDTH - (rulesAt p + RULE-WIDTH * k)) (image p ++ r) (ruleImage x)
@@ -311,7 +311,7 @@ module _ (m : List ℕ) (a : ℕ) (e : soundOf m ≡ true) (a-is : a ≡ SETS-AT
         (area ∙ area-removed (planOf m) (s .plan) (restOf m) k (rw (← many) place)) count
 
   -- one rule's slot lent, and another set number put into it
-  pub rule-changed : (k v : ℕ) (ys : List ℕ) → k < ruleCount m → ys ≡ withWord (midOf (a + RULE-WIDTH * k) (a + RULE-WIDTH * k + RULE-WIDTH - (a + RULE-WIDTH * k)) m) FILTER-BYTES v
+  pub rule-changed : (k v : ℕ) (ys : List ℕ) → k < ruleCount m → ys ≡ withWord (midOf (a + RULE-WIDTH * k) (a + RULE-WIDTH * k + RULE-WIDTH - (a + RULE-WIDTH * k)) m) SET-AT v
       → putMid (a + RULE-WIDTH * k) (a + RULE-WIDTH * k + RULE-WIDTH - (a + RULE-WIDTH * k)) m ys
       ≡ image (withRules (renamedAt k v (planOf m .rules)) (planOf m)) ++ restOf m
   unfolding planOf
@@ -322,7 +322,7 @@ module _ (m : List ℕ) (a : ℕ) (e : soundOf m ≡ true) (a-is : a ≡ SETS-AT
       let inside : k < length (p .rules) = rw (← rule-count-is m) place in
       let slot : midOf (a + RULE-WIDTH * k) (a + RULE-WIDTH * k + RULE-WIDTH - (a + RULE-WIDTH * k)) m ≡ ruleImage (getD (p .rules) k noRule) =
       ap₂ (λ (b : ℕ) (l : List ℕ). midOf (b + RULE-WIDTH * k) (b + RULE-WIDTH * k + RULE-WIDTH - (b + RULE-WIDTH * k)) l) a-is (s .bytes) ∙ rule-slot p (s .plan) (restOf m) k inside in
-      let left : ys ≡ ruleImage x = y ∙ (ap (λ (l : List ℕ). withWord l FILTER-BYTES v) slot ∙ rule-renamed p (s .plan) (restOf m) k inside v) in
+      let left : ys ≡ ruleImage x = y ∙ (ap (λ (l : List ℕ). withWord l SET-AT v) slot ∙ rule-renamed p (s .plan) (restOf m) k inside v) in
       ap₂ (λ (l u : List ℕ). putMid (a + RULE-WIDTH * k) (a + RULE-WIDTH * k + RULE-WIDTH - (a + RULE-WIDTH * k)) l u) (s .bytes) left
       ∙ (ap (λ (b : ℕ). putMid (b + RULE-WIDTH * k) (b + RULE-WIDTH * k + RULE-WIDTH - (b + RULE-WIDTH * k)) (image p ++ restOf m) (ruleImage x)) a-is
       ∙ slot-replaced p (s .plan) (restOf m) k inside x)
@@ -339,11 +339,11 @@ set-written slot z y content l k z-is y-is =
     rw (cleared, copied)
 
 pub rule-written : (slot z y code : List ℕ) (v : ℕ) → length slot ≡ RULE-WIDTH → length code ≡ FILTER-BYTES → z ≡ zeros (length slot)
-    → y ≡ writtenOver code z → withWord y FILTER-BYTES v ≡ ruleImage (ruleWith code v)
+    → y ≡ writtenOver code z → withWord y SET-AT v ≡ ruleImage (ruleWith code v)
 unfolding zeros ruleImage
 rule-written slot z y code v l k z-is y-is =
-    let copied : y ≡ code ++ 0 ∷ 0 ∷ zeros 3 = y-is ∙ rw (z-is, l, k) in
-    ap (λ (b : List ℕ). withWord b FILTER-BYTES v) copied ∙ word-between code 0 0 (zeros 3) FILTER-BYTES v k
+    let copied : y ≡ code ++ 0 ∷ 0 ∷ zeros (RULE-WIDTH - RULE-BODY) = y-is ∙ rw (z-is, l, k) in
+    ap (λ (b : List ℕ). withWord b SET-AT v) copied ∙ word-between code 0 0 (zeros (RULE-WIDTH - RULE-BODY)) SET-AT v k
 
 -- bytes put over as many unused ones
 put-over : (xs : List ℕ) (n : ℕ) (t : List ℕ) → length xs ≡ n → writtenOver xs (zeros n ++ t) ≡ xs ++ t

@@ -10,7 +10,7 @@ use native.Mathlib.Nat.{div-add-mod', mod-lt}
 use lib.ListN.{length, take, drop, getD, length-append, length-take, length-drop, length-map, take-append-drop}
 use lib.Seq.{take-at, drop-at, take-length, drop-append-le, take-append-le, drop-drop, getD-drop, length-take-le}
 use lib.Dec.{T, eqb, leb, eqb→eq, leb→le, le→leb, eqb-refl}
-use Rattle.meaning.specs.Sizes.{ROOMS-BYTES, SETTINGS-BYTES, CONTENT-BYTES, FILTER-BYTES, SETTINGS-AT, SETTINGS-END, SETS-AT, COUNT-AT, SET-WIDTH, RULE-WIDTH}
+use Rattle.meaning.specs.Sizes.{ROOMS-BYTES, SETTINGS-BYTES, CONTENT-BYTES, FILTER-BYTES, SET-AT, RULE-BODY, SETTINGS-AT, SETTINGS-END, SETS-AT, COUNT-AT, SET-WIDTH, RULE-WIDTH}
 use Rattle.meaning.specs.Basics.{if_then_else_, all, allOf, isZero, word, part}
 use Rattle.meaning.specs.Settings.{Rooms, roomsOf, bytesNeeded}
 use Rattle.meaning.specs.Rules.{Rule}
@@ -70,16 +70,16 @@ code-size c t = eqb→eq (length c) FILTER-BYTES (and-left (sized FILTER-BYTES c
 
 pub rule-size : (r : Rule) → T (codePasses (r .code)) → length (ruleImage r) ≡ RULE-WIDTH
 unfolding ruleImage
-rule-size r t = rw (length-append (r .code) (wordBytes (r .set) ++ zeros 3), code-size (r .code) t, length-append (wordBytes (r .set)) (zeros 3), length-zeros 3)
+rule-size r t = rw (length-append (r .code) (wordBytes (r .set) ++ zeros (RULE-WIDTH - RULE-BODY)), code-size (r .code) t, length-append (wordBytes (r .set)) (zeros (RULE-WIDTH - RULE-BODY)), length-zeros (RULE-WIDTH - RULE-BODY))
 
 pub rule-back : (r : Rule) → T (codePasses (r .code)) → ruleOf (ruleImage r) ≡ r
 unfolding ruleOf ruleImage
 rule-back r t =
-    let code : take FILTER-BYTES (r .code ++ (wordBytes (r .set) ++ zeros 3)) ≡ r .code = take-at (r .code) (wordBytes (r .set) ++ zeros 3) FILTER-BYTES (code-size (r .code) t) in
-    let behind : drop FILTER-BYTES (r .code ++ (wordBytes (r .set) ++ zeros 3)) ≡ wordBytes (r .set) ++ zeros 3 =
-    drop-at (r .code) (wordBytes (r .set) ++ zeros 3) FILTER-BYTES (code-size (r .code) t) in
-    let set : word (r .code ++ (wordBytes (r .set) ++ zeros 3)) FILTER-BYTES ≡ r .set =
-    rw (word-drop (r .code ++ (wordBytes (r .set) ++ zeros 3)) FILTER-BYTES, behind) (word-bytes (r .set)) in
+    let code : take FILTER-BYTES (r .code ++ (wordBytes (r .set) ++ zeros (RULE-WIDTH - RULE-BODY))) ≡ r .code = take-at (r .code) (wordBytes (r .set) ++ zeros (RULE-WIDTH - RULE-BODY)) FILTER-BYTES (code-size (r .code) t) in
+    let behind : drop FILTER-BYTES (r .code ++ (wordBytes (r .set) ++ zeros (RULE-WIDTH - RULE-BODY))) ≡ wordBytes (r .set) ++ zeros (RULE-WIDTH - RULE-BODY) =
+    drop-at (r .code) (wordBytes (r .set) ++ zeros (RULE-WIDTH - RULE-BODY)) FILTER-BYTES (code-size (r .code) t) in
+    let set : word (r .code ++ (wordBytes (r .set) ++ zeros (RULE-WIDTH - RULE-BODY))) SET-AT ≡ r .set =
+    rw (word-drop (r .code ++ (wordBytes (r .set) ++ zeros (RULE-WIDTH - RULE-BODY))) SET-AT, behind) (word-bytes (r .set)) in
     λ i. record { code = code i; set = set i }
 
 -- ALL SLOTS
