@@ -1,2 +1,4 @@
+pub mod Lists
+pub mod Tables
 pub mod Reading
 pub mod Fit

@@ -10,7 +10,7 @@ use lib.Dec.{eqb}
 use borrow.Author.Tests.{eqb-true, eqb-false, eq-eqb, ne-eqb}
 use Rattle.meaning.specs.Basics.{isEmpty}
 use Rattle.meaning.specs.Actions.{casOf, codesOf}
-use Rattle.ranges.proofs.Lists.{on, next-one, next-two, next-none}
+use Rattle.actions.proofs.Lists.{on, next-one, next-two, next-none}
 use Rattle.actions.specs.Reading.{Reads, ActionAt, CodeAt}
 
 reads-none : {A : Type 0} (listOf : List ℕ → List A) (width : ℕ) (b : List ℕ) (i : ℕ) (x : A) → listOf (drop i b) ≡ [] → Reads listOf width b i 0 x

@@ -15,7 +15,7 @@ use Rattle.meaning.proofs.Tests.{same-tests, true-is, and-left, and-right, and-
 use Rattle.blocks.specs.Endian.{littleEndian}
 use Rattle.blocks.specs.Places.{placesPass, masks, maskTable, disjoint}
 use Rattle.blocks.proofs.EndianLaws.{Bytes, bytes-front, bytes-behind}
-use Rattle.blocks.proofs.PlaceLaws.{rest-is}
+use Rattle.buffer.proofs.ListLaws.{rest-is}
 
 digit-bits : (x : ℕ) → x < 256 → eqb (bitAnd x 240) 0 ≡ isDigit x
 digit-bits x h =

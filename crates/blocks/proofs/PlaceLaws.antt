@@ -9,14 +9,10 @@ use lib.ListN.{length, take, drop, length-drop, drop-of-length-le}
 use lib.Seq.{take-all, take-take}
 use Rattle.meaning.specs.Basics.{all, isZero, isDigit}
 use Rattle.meaning.proofs.Tests.{is-true, true-is, and-left}
-use Rattle.buffer.proofs.ListLaws.{drop-take}
+use Rattle.buffer.proofs.ListLaws.{drop-take, rest-is}
 use Rattle.blocks.specs.Places.{placesPass}
 
 -- PARTS
-
--- a part that ends where the list ends
-pub rest-is : (i : ℕ) (s : List ℕ) → take (length s - i) (drop i s) ≡ drop i s
-rest-is i s = take-all (length s - i) (drop i s) (rw length-drop (omega arith))
 
 -- digits, and then unused bytes
 pub pass-is : (n : ℕ) (s : List ℕ) → placesPass n s ≡ (all isDigit (take n s) && all isZero (drop n s))

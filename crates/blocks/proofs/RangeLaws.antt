@@ -9,7 +9,8 @@ use lib.Dec.{leb}
 use borrow.Author.Tests.{le-leb, lt-leb}
 use Rattle.meaning.specs.Basics.{within, digitsInRange}
 use Rattle.blocks.specs.Places.{placesPass}
-use Rattle.blocks.proofs.PlaceLaws.{rest-is, pass-is}
+use Rattle.blocks.proofs.PlaceLaws.{pass-is}
+use Rattle.buffer.proofs.ListLaws.{rest-is}
 
 pub range-empty : (s : List ℕ) (lo hi : ℕ) → length s ≡ 0 → digitsInRange lo hi s ≡ false
 range-empty [] lo hi e = refl

@@ -2,11 +2,11 @@
 use Prim.Native.Nat.{ℕ, zero, suc, _+_, _-_, _≤_, _<_}
 use mathlib.Core.Path.{_≡_, refl, sym, ap, ap₂, _∙_}
 use mathlib.Core.List.{List, [], _∷_, _++_, map, map-append}
-use mathlib.Core.Option.{some}
+use mathlib.Core.Option.{none, some}
 use native.Mathlib.Nat.{not-suc-le-zero, le-of-suc-le-suc, sub-zero}
 use native.Mathlib.Omega.{arith}
 use mathlib.Core.Bool.{Bool, _&&_}
-use lib.Seq.{take-nil, take-take}
+use lib.Seq.{take-nil, take-take, take-all}
 use lib.ListN.{length, take, drop, getD, set, getElem?, length-append, length-take, length-drop}
 use Rattle.meaning.specs.Basics.{all}
 use Rattle.buffer.specs.Slots.{insertAt, removeAt}
@@ -17,6 +17,10 @@ module _ {A : Type 0} where
   drop-take (suc w) zero xs h = absurd (not-suc-le-zero h)
   drop-take (suc w) (suc k) [] h = sym (take-nil (suc k - suc w))
   drop-take (suc w) (suc k) (x ∷ xs) h = let e : suc k - suc w ≡ k - w = omega arith in rw e (drop-take w k xs (le-of-suc-le-suc h))
+
+  -- a part that ends where the list ends
+  pub rest-is : (i : ℕ) (xs : List A) → take (length xs - i) (drop i xs) ≡ drop i xs
+  rest-is i xs = take-all (length xs - i) (drop i xs) (rw length-drop (omega arith))
 
   -- a part within the first k bytes
   pub part-part : (a n k : ℕ) (xs : List A) → a + n ≤ k → take n (drop a (take k xs)) ≡ take n (drop a xs)
@@ -33,6 +37,12 @@ module _ {A : Type 0} where
   element-at [] k d h = absurd (not-suc-le-zero h)
   element-at (x ∷ xs) zero d h = refl
   element-at (x ∷ xs) (suc k) d h = element-at xs k d (le-of-suc-le-suc h)
+
+  -- and none behind it
+  pub no-element : (xs : List A) (k : ℕ) → length xs ≤ k → getElem? xs k ≡ none
+  no-element [] k h = refl
+  no-element (x ∷ xs) zero h = absurd (not-suc-le-zero h)
+  no-element (x ∷ xs) (suc k) h = no-element xs k (le-of-suc-le-suc h)
 
 module _ {A B : Type 0} (f : A → B) where
   pub map-take : (i : ℕ) (xs : List A) → map f (take i xs) ≡ take i (map f xs)

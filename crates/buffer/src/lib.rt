@@ -2,7 +2,7 @@
 ghost use mathlib.Core.Path.{_≡_};
 ghost use mathlib.Core.List.{_++_, [], _∷_};
 ghost use Prim.Native.Nat.{_+_, _*_, _-_, _<_, _≤_};
-ghost use lib.ListN.{length, take, drop, set};
+ghost use lib.ListN.{length, take, drop};
 ghost use Rattle.meaning.specs.Basics.{writtenOver, all, isZero, isDigit};
 ghost use Rattle.buffer.specs.Bytes.{Byte, Word, atMost, withWord};
 ghost use Rattle.buffer.specs.Zeros.{zeros};
@@ -125,16 +125,6 @@ pub fn all_digits(s: &[u8]) -> bool
     ensures { λ r. ⌜ r ≡ all isDigit (now (s .entry)) ⌝ }
 {
     all_at_most(s, 15)
-}
-
-// Slot i of the slots of w bytes becomes x.
-pub fn put_slot(area: &mut [u8], w: usize, i: usize, x: &[u8])
-    requires { ⌜ (w * (i + 1) ≤ length (now area)) × (length (now x) ≡ w) ⌝ }
-    ensures { λ _. ⌜ now (area .exit) ≡ withSlots w (i + 1) (set (slots w (i + 1) (now (area .entry))) i (now (x .entry))) (now (area .entry)) ⌝ }
-{
-    let a = w * i;
-    let e = a + w;
-    copy(&mut area[a..e], x);
 }
 
 // Puts x into the first `count` slots of w bytes, before slot `place`.

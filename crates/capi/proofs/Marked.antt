@@ -1,7 +1,7 @@
 -- M1 to M12 over the functions that run: whatever meets the promises of the public calls on the bodies of the table gives the table's rows.
 use Prim.Native.Nat.{ℕ, zero, suc}
 use mathlib.Core.Path.{_≡_, refl, ap, ap₂, sym, subst, _∙_}
-use mathlib.Core.Bool.{Bool, true, false, _&&_}
+use mathlib.Core.Bool.{Bool, false, _&&_}
 use mathlib.Core.List.{List, [], _∷_, _++_, List·Memᴰ, List·Memᴰ·head, List·Memᴰ·tail}
 use mathlib.Core.Option.{Option, none, some}
 use native.Mathlib.Omega.{arith}
@@ -21,6 +21,7 @@ use Rattle.meaning.specs.declared.Answered.{Answered}
 use Rattle.meaning.specs.declared.Written.{Written}
 use Rattle.meaning.specs.declared.Chosen.{Chosen}
 use Rattle.meaning.proofs.Tests.{and-left, and-right}
+use Rattle.meaning.proofs.CallKinds.{isOpening}
 use Rattle.meaning.proofs.Examples.{marked-examples}
 use Rattle.plan.specs.State.{stateOf}
 use Rattle.changes.specs.Promise.{Chain}
@@ -83,15 +84,6 @@ asked nothing cs m result s e = e
 
 -- EVERY ROW BEGINS WITH AN OPENING
 
-isOpening : Operation → Bool
-isOpening openPlan = true
-isOpening addSet = false
-isOpening replaceSet = false
-isOpening removeSet = false
-isOpening addRule = false
-isOpening changeRule = false
-isOpening removeRule = false
-
 opensWith : List Call → List ℕ → Bool
 opensWith [] ns = false
 opensWith (c ∷ cs) [] = false
@@ -101,7 +93,7 @@ opensFirst : Row → Bool
 opensFirst r = opensWith (r .calls) (r .numbers)
 
 opens : T (all opensFirst table)
-unfolding opensFirst opensWith isOpening table
+unfolding opensFirst opensWith table
 opens = tt
 
 head-zero : (x n : ℕ) (xs ns : List ℕ) → x ∷ xs ≡ n ∷ ns → T (isZero n) → x ≡ 0
@@ -122,7 +114,6 @@ opened-runs b cs numbers q result z e f m end ns h t =
 by-operation : (o : Operation) (b : List ℕ) (cs : List Call) (n : ℕ) (numbers : List ℕ) (q : Query) (result : List ℕ) → T (isOpening o && isZero n)
     → refusalsFrom (lacksBytes MEMORY) none (record { operation = o; body = b } ∷ cs) ≡ n ∷ numbers → shown q (record { operation = o; body = b } ∷ cs) ≡ result
     → (m end ns : List ℕ) → length m ≡ MEMORY → Chain m (record { operation = o; body = b } ∷ cs) ns end → (ns ≡ n ∷ numbers) × Asked q end result
-unfolding isOpening
 by-operation openPlan b cs n numbers q result t e f = opened-runs b cs (n ∷ numbers) q result (head-zero _ n _ numbers e t) e f
 by-operation addSet b cs n numbers q result t e f = absurd t
 by-operation replaceSet b cs n numbers q result t e f = absurd t

@@ -1,45 +1,28 @@
--- The two arms of a call: its refusal's number is not 0; and what meets its promise keeps the memory's length.
+-- The two arms of a call; and what meets its promise keeps the memory's length.
 use Prim.Native.Nat.{ℕ}
 use mathlib.Core.Path.{_≡_, ap, sym, _∙_}
-use mathlib.Core.Logic.{_≢_}
 use mathlib.Core.Bool.{Bool, true, false}
 use mathlib.Core.List.{List}
 use mathlib.Core.Option.{some}
-use native.Mathlib.Omega.{arith}
 use lib.ListN.{length}
 use Rattle.meaning.specs.Refusals.{firstOf}
 use Rattle.meaning.specs.Answers.{numberOfRefusal, numberOfProvisioned}
 use Rattle.meaning.specs.Calls.{Operation, Call, kindOf, bodyLength, lacksBytes, linesOf}
 use Rattle.meaning.specs.declared.Refusal.{Refusal}
-use Rattle.meaning.specs.declared.Refusal.the-variants.{Cut, Kind, Plan, Room, Range, Groups, Taken, Absent, Misfit, Full, InUse, Short, Long}
 use Rattle.meaning.specs.declared.Provisioned.{Provisioned}
 use Rattle.meaning.specs.declared.Provisioned.the-variants.{Accepted, Refused}
+use Rattle.meaning.proofs.Telling.{refusal-number}
 use Rattle.plan.specs.Layout.{planOf}
 use Rattle.plan.specs.State.{soundOf}
 use Rattle.changes.specs.Promise.{Provides, calls}
 use Rattle.changes.proofs.PromiseLaws.{known-refused}
 use Rattle.changes.proofs.Chains.{after-call}
 
-pub not-accepted : (r : Refusal) → numberOfRefusal r ≢ 0
-not-accepted Cut e = omega (arith, e)
-not-accepted Kind e = omega (arith, e)
-not-accepted Plan e = omega (arith, e)
-not-accepted Room e = omega (arith, e)
-not-accepted Range e = omega (arith, e)
-not-accepted Groups e = omega (arith, e)
-not-accepted Taken e = omega (arith, e)
-not-accepted Absent e = omega (arith, e)
-not-accepted Misfit e = omega (arith, e)
-not-accepted Full e = omega (arith, e)
-not-accepted InUse e = omega (arith, e)
-not-accepted Short e = omega (arith, e)
-not-accepted Long e = omega (arith, e)
-
 module _ (o : Operation) (m b : List ℕ) (size : length b ≡ bodyLength (kindOf o)) (s : soundOf m ≡ true) (answer : Provisioned)
     (says : numberOfProvisioned answer ≡ firstOf (linesOf o (lacksBytes (length m)) (some (planOf m)) b)) where
   -- one of the checks refused
   pub arm-refused : (r : Refusal) → answer ≡ Refused r → Provides (calls o b) m m (numberOfRefusal r)
-  arm-refused r e = known-refused o m b size s (numberOfRefusal r) (sym says ∙ ap numberOfProvisioned e) (not-accepted r)
+  arm-refused r e = known-refused o m b size s (numberOfRefusal r) (sym says ∙ ap numberOfProvisioned e) (refusal-number r)
 
   -- none did
   pub arm-accepted : answer ≡ Accepted → firstOf (linesOf o (lacksBytes (length m)) (some (planOf m)) b) ≡ 0

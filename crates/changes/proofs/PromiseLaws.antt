@@ -1,8 +1,8 @@
 -- How a call meets its promise: it is refused by its first check, by the examiner, or by one of its own checks, or it leaves the image of what it made.
 use Prim.Native.Nat.{ℕ, zero, suc, _+_, _≤_, _<_}
-use mathlib.Core.Path.{_≡_, refl, ap, ap₂, sym, subst, _∙_}
+use mathlib.Core.Path.{_≡_, ap, ap₂, sym, subst, _∙_}
 use mathlib.Core.Logic.{_≢_}
-use mathlib.Core.Bool.{Bool, true, false, not}
+use mathlib.Core.Bool.{true, false, not}
 use mathlib.Core.List.{List, [], _∷_, _++_}
 use mathlib.Core.Option.{Option, none, some}
 use native.Mathlib.Omega.{arith}
@@ -14,7 +14,8 @@ use Rattle.meaning.specs.Basics.{if_then_else_, isZero}
 use Rattle.meaning.specs.Refusals.{CUT, PLAN, Line, firstOf}
 use Rattle.meaning.specs.Settings.{Rooms, roomsOf, bytesNeeded}
 use Rattle.meaning.specs.Plan.{Plan, roomsIn}
-use Rattle.meaning.specs.Calls.{Operation, openPlan, addSet, replaceSet, removeSet, addRule, changeRule, removeRule, Call, kindOf, bodyLength, isCut, bodyOf, lacksBytes, linesOf, refusal, made, isAccepted}
+use Rattle.meaning.specs.Calls.{Operation, Call, kindOf, bodyLength, isCut, bodyOf, lacksBytes, linesOf, refusal, made, isAccepted}
+use Rattle.meaning.proofs.CallKinds.{isOpening, plan-lines}
 use Rattle.plan.specs.Layout.{image, planOf}
 use Rattle.plan.specs.State.{soundOf, stateOf, restOf}
 use Rattle.plan.proofs.ImageLaws.{state-some, state-none}
@@ -63,24 +64,6 @@ module _ (o : Operation) (m b : List ℕ) (h : bodyLength (kindOf o) ≤ length 
   longer after number p = record { number-is = p .number-is ∙ same-number; memory-is = p .memory-is ∙ same-memory }
 
 -- OVER AN UNSOUND MEMORY every call but opening is refused with PLAN
-
-abbrev pub isOpening : Operation → Bool
-isOpening openPlan = true
-isOpening addSet = false
-isOpening replaceSet = false
-isOpening removeSet = false
-isOpening addRule = false
-isOpening changeRule = false
-isOpening removeRule = false
-
-plan-lines : (o : Operation) (lacks : List ℕ → Bool) (b : List ℕ) → isOpening o ≡ false → firstOf (linesOf o lacks none b) ≡ PLAN
-plan-lines openPlan lacks b e = absurd (let z : _≡_ {A = ℕ} 0 1 = cc in omega arith)
-plan-lines addSet lacks b e = refl
-plan-lines replaceSet lacks b e = refl
-plan-lines removeSet lacks b e = refl
-plan-lines addRule lacks b e = refl
-plan-lines changeRule lacks b e = refl
-plan-lines removeRule lacks b e = refl
 
 pub unsound : (o : Operation) (m b : List ℕ) → isOpening o ≡ false → bodyLength (kindOf o) ≤ length b → soundOf m ≡ false → Provides (calls o b) m m PLAN
 unsound o m b e h s =

@@ -17,7 +17,7 @@ use Rattle.meaning.specs.Conditioning.{width, meetsTooFew, short, Stretch, take
 use Rattle.meaning.specs.Reads.{stretchBy}
 use Rattle.meaning.specs.declared.Span.{Span}
 use Rattle.meaning.proofs.Tests.{same-tests, is-true, true-is, is-false, false-is, or-left-false, or-right-false}
-use Rattle.ranges.proofs.Lists.{on}
+use Rattle.actions.proofs.Lists.{on}
 use Rattle.conditioning.specs.Spans.{stretchIn, Covers}
 
 -- an X action meets too few digits where it meets none

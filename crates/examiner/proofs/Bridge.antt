@@ -13,7 +13,7 @@ use Rattle.meaning.specs.Basics.{all, word}
 use Rattle.meaning.specs.Settings.{roomsOf, bytesNeeded}
 use Rattle.meaning.specs.Rules.{Rule, inOrder}
 use Rattle.meaning.specs.Plan.{slotPasses, codesPass, rulesFit}
-use Rattle.meaning.proofs.Tests.{true-is, and-left, and-right, and-both, each-all, same-tests}
+use Rattle.meaning.proofs.Tests.{true-is, and-left, and-right, and-both, each-all, same-tests, same-self}
 use Rattle.meaning.proofs.Soundness.{Sound, sound-of}
 use Rattle.buffer.specs.Zeros.{zeros}
 use Rattle.buffer.specs.Slots.{slots, flat}
@@ -22,7 +22,7 @@ use Rattle.filter.specs.Slots.{rulesOf}
 use Rattle.filter.proofs.RuleLaws.{length-rules, rules-part}
 use Rattle.plan.specs.Layout.{slotImage, ruleImage, headerImage, setsImage, rulesImage, image, roomsAt, sizeOf, setRoom, ruleRoom, ruleCount, slotOf, slotsOf, planOf}
 use Rattle.plan.specs.State.{soundTests, soundOf}
-use Rattle.plan.proofs.ImageLaws.{same-self, header-size, sets-size, SoundMemory, sound-memory}
+use Rattle.plan.proofs.ImageLaws.{header-size, sets-size, SoundMemory, sound-memory}
 use Rattle.examiner.specs.Examined.{fixedPass, headerPasses, areasPass, setArea, ruleArea, examined, Sized}
 use Rattle.examiner.proofs.Bytes.{Bytes, bytes-take, bytes-drop}
 use Rattle.examiner.proofs.Headers.{Header, header-parts, header-of, header-numbers, header-image, image-fixed}

@@ -10,7 +10,7 @@ use lib.Dec.{T, lit<}
 use Rattle.meaning.specs.Basics.{all, isZero, word, part}
 use Rattle.buffer.specs.Zeros.{zeros}
 use Rattle.buffer.proofs.ZeroLaws.{all-zeros}
-use Rattle.ranges.proofs.Lists.{next-two}
+use Rattle.actions.proofs.Lists.{next-two}
 use Rattle.plan.specs.Layout.{wordBytes}
 
 -- every element is a byte

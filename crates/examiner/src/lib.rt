@@ -50,10 +50,10 @@ fn opening_passes(memory: &[u8]) -> bool
     requires { ⌜ SETS-AT ≤ length (now memory) ⌝ }
     ensures { λ r. ⌜ r ≡ openingPasses (now (memory .entry)) ⌝ }
 {
-    if !settings::rooms_in_range(&memory[ROOMS_AT..ROOMS_END]) {
+    if !ranges::rooms_in_range(&memory[ROOMS_AT..ROOMS_END]) {
         return false;
     }
-    settings::settings_in_range(&memory[SETTINGS_AT..SETTINGS_END])
+    ranges::settings_in_range(&memory[SETTINGS_AT..SETTINGS_END])
 }
 
 // Whether the rules have room, and the memory has the size that the rooms need.
@@ -98,7 +98,7 @@ fn slot_passes(slot: &[u8]) -> bool
     if 1 < held {
         return false;
     }
-    if !ranges::content_in_range(&slot[CONTENT_AT..COUNT_AT]) {
+    if !actions::content_in_range(&slot[CONTENT_AT..COUNT_AT]) {
         return false;
     }
     if !groups::groups_hold(&slot[CONTENT_AT..COUNT_AT]) {

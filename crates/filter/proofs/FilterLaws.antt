@@ -48,6 +48,12 @@ pub prefix-is : (s : List ℕ) → FilterBytes s → filterOf s .prefix ≡ take
 unfolding filterOf
 prefix-is s h = digits-at PREFIX-AT 16 s (omega (arith, h .whole)) (h .prefix)
 
+-- its length is the byte before it
+pub prefix-length : (s : List ℕ) → FilterBytes s → length (filterOf s .prefix) ≡ getD s PREFIX-AT 0
+prefix-length s f =
+    let whole : FILTER-BYTES ≤ length s = f .whole in let few : getD s PREFIX-AT 0 ≤ 16 = f .prefix in
+    ap length (prefix-is s f) ∙ length-take-le (getD s PREFIX-AT 0) (drop PREFIX-DIGITS-AT s) (rw (length-drop PREFIX-DIGITS-AT s) (omega arith))
+
 -- RANGE
 
 class-known : (b : ℕ) (c : Class) → classOf b ≡ Known c → isClass b ≡ true

@@ -11,6 +11,7 @@ use Rattle.meaning.specs.Sizes.{RULE-WIDTH}
 use Rattle.meaning.specs.Basics.{all, any}
 use Rattle.meaning.specs.Filters.{Filter, filterOf, compareFilters, isLt, isBefore}
 use Rattle.meaning.specs.Rules.{Rule, filterIn, hasFilter, setNamed, inOrder, insert, rename, without}
+use Rattle.meaning.specs.History.{noRule}
 use Rattle.meaning.proofs.Tests.{and-left, and-right}
 use Rattle.meaning.proofs.ListingOrder.{filters}
 use Rattle.buffer.specs.Slots.{insertAt, removeAt}
@@ -83,10 +84,6 @@ pub record AbsentAt (f : Filter) (rs : List Rule) (k : ℕ) : Type 0 where
   pub none-has : any (hasFilter f) rs ≡ false
   pub unnamed : setNamed f rs ≡ none
   pub inserted : (r : Rule) → filterIn r ≡ f → insert r rs ≡ insertAt k r rs
-
--- a rule that no place of a list gives
-abbrev pub noRule : Rule
-noRule = record { code = []; set = 0 }
 
 -- the rule at place k has the filter; changing and removing it change that place alone
 pub record HeldAt (f : Filter) (rs : List Rule) (k : ℕ) : Type 0 where

@@ -11,8 +11,7 @@ use lib.Seq.{drop-cons, drop-drop}
 use lib.Dec.{leb, ltb}
 use borrow.Author.Tests.{leb-true, ltb-true, ltb-false}
 use Rattle.meaning.specs.Basics.{writtenOver}
-use Rattle.meaning.specs.Calls.{Call, isCall, bodyLength}
-use Rattle.meaning.specs.Records.{callOf}
+use Rattle.meaning.specs.Calls.{Call, isCall, bodyLength, callOf}
 use Rattle.changes.specs.Promise.{numberFor, memoryAfter, Provides}
 use Rattle.changes.proofs.ArmLaws.{keeps-length}
 use Rattle.history.specs.Replays.{Replays, callsIn, numbersOf, memoryBehind}

@@ -7,8 +7,7 @@ use lib.ListN.{length, take, drop, length-append}
 use lib.Seq.{take-at, drop-at}
 use lib.Dec.{T, eqb, eqb→eq}
 use borrow.Author.Tests.{le-leb}
-use Rattle.meaning.specs.Calls.{Operation, openPlan, addSet, replaceSet, removeSet, addRule, changeRule, removeRule, Call, isCall, kindOf, bodyLength}
-use Rattle.meaning.specs.Records.{operationOf}
+use Rattle.meaning.specs.Calls.{Operation, openPlan, addSet, replaceSet, removeSet, addRule, changeRule, removeRule, Call, isCall, kindOf, bodyLength, operationOf}
 use Rattle.meaning.proofs.Tests.{is-true, and-left, and-right}
 use Rattle.changes.specs.Promise.{memoryAfter, Provides, calls, Chain, done, next}
 use Rattle.history.specs.Replays.{Replays, callsIn, numbersOf, memoryBehind, recordsOf, wholeBodies, RunsEvery}

@@ -6,8 +6,7 @@ use mathlib.Core.List.{List, [], _∷_, _++_}
 use lib.ListN.{length, take, drop}
 use lib.Dec.{T, leb, eqb}
 use Rattle.meaning.specs.Basics.{if_then_else_, all, writtenOver}
-use Rattle.meaning.specs.Calls.{Call, isCall, kindOf, bodyLength}
-use Rattle.meaning.specs.Records.{callOf}
+use Rattle.meaning.specs.Calls.{Call, isCall, kindOf, bodyLength, callOf}
 use Rattle.changes.specs.Promise.{numberFor, memoryAfter}
 
 -- the bytes begin with a whole record of a call

@@ -2,7 +2,7 @@
 ghost use mathlib.Core.Path.{_≡_};
 ghost use Prim.Native.Nat.{_≤_};
 ghost use lib.ListN.{drop};
-ghost use Rattle.meaning.specs.Records.{callOf};
+ghost use Rattle.meaning.specs.Calls.{callOf};
 ghost use Rattle.meaning.specs.Answers.{numberOfProvisioned};
 ghost use Rattle.changes.specs.Promise.{Provides};
 ghost use Rattle.history.specs.Replays.{Replays};
@@ -18,11 +18,11 @@ fn is_whole(calls: &[u8], at: usize) -> bool
         return false;
     }
     let kind = calls[at];
-    if !changes::is_call(kind) {
+    if !kinds::is_call(kind) {
         return false;
     }
     let body = at + 1;
-    changes::body_length(kind) <= calls.len() - body
+    kinds::body_length(kind) <= calls.len() - body
 }
 
 // The call of a kind.
@@ -53,7 +53,7 @@ pub fn replay(plan: &mut [u8], calls: &[u8], numbers: &mut [u8]) -> usize
         }
         let kind = calls[at];
         let body = at + 1;
-        let end = body + changes::body_length(kind);
+        let end = body + kinds::body_length(kind);
         numbers[done] = carry_out(plan, kind, &calls[body..end]).number();
         at = end;
         done += 1;

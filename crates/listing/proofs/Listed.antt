@@ -2,9 +2,9 @@
 use Prim.Native.Nat.{ℕ, zero, suc, _+_, _-_, _≤_, _<_}
 use mathlib.Core.Path.{_≡_, refl, ap, sym, _∙_}
 use mathlib.Core.Bool.{true, false}
-use mathlib.Core.List.{List, [], _∷_, _++_}
+use mathlib.Core.List.{List, _++_}
 use mathlib.Core.Option.{none, some}
-use native.Mathlib.Nat.{not-suc-le-zero, le-of-suc-le-suc, sub-zero}
+use native.Mathlib.Nat.{sub-zero}
 use native.Mathlib.Omega.{arith}
 use lib.ListN.{length, take, drop, getD, getElem?, replicate, length-map, List·getD-map}
 use Rattle.meaning.specs.Sizes.{CLASS-AT, PREFIX-AT, PREFIX-DIGITS-AT, LENGTH-AT}
@@ -20,24 +20,19 @@ use Rattle.meaning.specs.declared.SetNumber.{SetNumber}
 use Rattle.meaning.specs.declared.Refusal.the-variants.{Plan as NoPlan}
 use Rattle.meaning.specs.declared.Counted.the-variants.{Rules, Refused as NotCounted}
 use Rattle.meaning.specs.declared.ListedRule.{ListedRule}
-use Rattle.buffer.proofs.ListLaws.{element-at}
+use Rattle.buffer.proofs.ListLaws.{element-at, no-element}
 use Rattle.filter.proofs.FilterLaws.{prefix-is}
 use Rattle.plan.specs.Layout.{ruleCount, planOf}
 use Rattle.plan.specs.State.{soundOf}
 use Rattle.plan.proofs.ReadLaws.{rule-count-is}
 use Rattle.plan.proofs.ImageLaws.{state-some, state-none}
-use Rattle.choice.specs.Chosen.{RuleSlot}
-use Rattle.choice.proofs.Chosen.{rulePlaced, prefix-length}
+use Rattle.plan.specs.Readings.{RuleSlot}
+use Rattle.plan.proofs.PlacedRules.{rulePlaced, slot-prefix}
 use Rattle.listing.specs.Promises.{CountPromise, ListedPromise}
 
 -- LISTS
 
 module _ {A : Type 0} where
-  no-element : (xs : List A) (k : ℕ) → length xs ≤ k → getElem? xs k ≡ none
-  no-element [] k h = refl
-  no-element (x ∷ xs) zero h = absurd (not-suc-le-zero h)
-  no-element (x ∷ xs) (suc k) h = no-element xs k (le-of-suc-le-suc h)
-
   drop-replicate : (k n : ℕ) (a : A) → drop k (replicate n a) ≡ replicate (n - k) a
   drop-replicate zero n a = simp sub-zero
   drop-replicate (suc k) zero a = let e : zero - suc k ≡ 0 = omega arith in rw e
@@ -91,7 +86,7 @@ unfolding filterOf
 rule-read m s copied k n set below slot n-is copied-is set-is =
     let f : Filter = filterIn (rulePlaced m k) in
     let c : getD s CLASS-AT 0 ≡ f .class = ap (λ (g : Filter). g .class) (slot .filter) in
-    let d : getD s PREFIX-AT 0 ≡ length (f .prefix) = prefix-length (rulePlaced m k) s (getD s PREFIX-AT 0) slot refl .is in
+    let d : getD s PREFIX-AT 0 ≡ length (f .prefix) = slot-prefix (rulePlaced m k) s (getD s PREFIX-AT 0) slot refl .is in
     let w : PREFIX-DIGITS-AT + n - PREFIX-DIGITS-AT ≡ getD s PREFIX-AT 0 = omega (arith, n-is) in
     let ds : take (PREFIX-DIGITS-AT + n - PREFIX-DIGITS-AT) (drop PREFIX-DIGITS-AT s) ≡ f .prefix =
     ap (λ (j : ℕ). take j (drop PREFIX-DIGITS-AT s)) w ∙ (sym (prefix-is s (slot .bytes)) ∙ ap (λ (g : Filter). g .prefix) (slot .filter)) in

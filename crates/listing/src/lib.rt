@@ -63,7 +63,7 @@ fn held_at(plan: &[u8], place: RulePlace) -> ListedRule
     requires { ⌜ (soundOf (now plan) ≡ true) × (place .0 < ruleCount (now plan)) ⌝ }
     ensures { λ r. ⌜ r ≡ ruleListed (ruleAtPlace (some (planOf (now (plan .entry)))) (place .0)) ⌝ }
 {
-    let slot = choice::rule_slot(plan, place);
+    let slot = plan::rule_slot(plan, place);
     let class = slot[CLASS_AT];
     let digits = slot[PREFIX_AT];
     let length = slot[LENGTH_AT];

@@ -19,13 +19,13 @@ use Rattle.meaning.specs.Groups.{nothingWithoutCA, oneFormat, formatStan
 use Rattle.meaning.specs.Conditioning.{Stretch, digitsAt, stretchOf, valueFrom, conditionedFrom, joined}
 use Rattle.meaning.specs.Services.{atStart, responded, inprtg, rnSet, cdpnnp, asdlkup, grnlkup, cdial, carryOut, eightPlaces, valueToSend}
 use Rattle.meaning.specs.Plan.{Plan, settingsIn, referrers, fresh, withSlot, withRules, contentPasses, codePasses, rulesFit, codesPass, sound}
-use Rattle.meaning.specs.Answer.{Answer, refused, unserved, served, outgoingClass, formatted, afterServices, answerBy, answerOf, answer}
+use Rattle.meaning.specs.Answer.{Answer, refused, unserved, served, outgoingClass, formatted, afterServices, answerBy, answerWith, answerOf, answer}
 use Rattle.meaning.specs.View.{view, answerByView}
 use Rattle.meaning.specs.Reads.{Read, Count, Listed, conditionedBy, conditioned, stretchBy, stretch, setContent, referrerCount, listing, ruleCount, ruleAtPlace}
-use Rattle.meaning.specs.Calls.{Call, OPEN-PLAN, ADD-SET, REPLACE-SET, REMOVE-SET, ADD-RULE, CHANGE-RULE, REMOVE-RULE, NUMBER, REFS, LIST, kinds, isKind, isCall, bodyLength, openingLines, addSetLines, replaceSetLines, removeSetLines, addRuleLines, changeRuleLines, removeRuleLines, refusal, lacksBytes, after, putIn, refusalsFrom}
+use Rattle.meaning.specs.Calls.{Call, OPEN-PLAN, ADD-SET, REPLACE-SET, REMOVE-SET, ADD-RULE, CHANGE-RULE, REMOVE-RULE, NUMBER, REFS, LIST, kinds, isKind, isCall, bodyLength, openingLines, addSetLines, replaceSetLines, removeSetLines, addRuleLines, changeRuleLines, removeRuleLines, refusal, lacksBytes, after, putIn, refusalsFrom, operationOf, callOf}
 use Rattle.meaning.specs.LookBack.{accepted, lastOpening, lastContent, lastSet}
 use Rattle.meaning.specs.History.{rising}
-use Rattle.meaning.specs.Records.{decimal, digitText, okLine, noLine, numberLine, refsLine, listedLine, endLine, lacksProgramRoom, operationOf, callOf, recordText, recordHouse, fileText, End, fileEnd}
+use Rattle.meaning.specs.Records.{decimal, digitText, okLine, noLine, numberLine, refsLine, listedLine, endLine, lacksProgramRoom, recordText, recordHouse, fileText, End, fileEnd}
 use Rattle.meaning.specs.Answers.{codeOf, classOf, outgoingOf, numberOfRefusal}
 use Rattle.meaning.specs.declared.ClassOf.{ClassOf}
 use Rattle.meaning.specs.declared.ClassOf.the-variants.{Known, Unknown as UnknownClass}
@@ -37,7 +37,7 @@ use Rattle.meaning.specs.Run.{ascii, file, run, nineLines}
 
 -- every definition that is computed with
 everything : ℕ
-unfolding roomsOf roomsInRange bytesNeeded settingsOf settingsInRange lookupOf entityInRange asdOrGrnInRange lookupInRange numberOf numberInRange dialledInRange filterOf filterInRange fitsNumber rank compareFilters firstLargest weight chosenPlace chosen valueOf actionsOf mostOf caInRange contentInRange nothingWithoutCA oneFormat formatStands fpfxFirst oneXAction precedence isBacked formattingBacked groupsHold fpfxMeetsPrefix casFit fit stretchOf valueFrom conditionedFrom atStart responded inprtg rnSet cdpnnp asdlkup grnlkup cdial carryOut eightPlaces valueToSend referrers fresh withSlot withRules contentPasses codePasses rulesFit codesPass sound refused unserved served outgoingClass formatted afterServices answerBy answerOf view answerByView conditionedBy stretchBy listing isKind isCall bodyLength openingLines addSetLines replaceSetLines removeSetLines addRuleLines changeRuleLines removeRuleLines refusal after decimal digitText okLine noLine numberLine refsLine listedLine endLine lacksProgramRoom operationOf recordText recordHouse fileText fileEnd
+unfolding roomsOf roomsInRange bytesNeeded settingsOf settingsInRange lookupOf entityInRange asdOrGrnInRange lookupInRange numberOf numberInRange dialledInRange filterOf filterInRange fitsNumber rank compareFilters firstLargest weight chosenPlace chosen valueOf actionsOf mostOf caInRange contentInRange nothingWithoutCA oneFormat formatStands fpfxFirst oneXAction precedence isBacked formattingBacked groupsHold fpfxMeetsPrefix casFit fit stretchOf valueFrom conditionedFrom atStart responded inprtg rnSet cdpnnp asdlkup grnlkup cdial carryOut eightPlaces valueToSend referrers fresh withSlot withRules contentPasses codePasses rulesFit codesPass sound refused unserved served outgoingClass formatted afterServices answerBy answerWith answerOf view answerByView conditionedBy stretchBy listing isKind isCall bodyLength openingLines addSetLines replaceSetLines removeSetLines addRuleLines changeRuleLines removeRuleLines refusal after decimal digitText okLine noLine numberLine refsLine listedLine endLine lacksProgramRoom operationOf recordText recordHouse fileText fileEnd
 everything = 0
 
 -- THE RUN

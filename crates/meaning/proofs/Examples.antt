@@ -1,11 +1,9 @@
 -- M1 to M12 hold: the table's test is computed, and what is computed is an equation for each row.
-use Prim.Native.Nat.{ℕ}
-use mathlib.Core.Path.{_≡_, refl, ap₂}
-use mathlib.Core.Bool.{Bool, true, false, _&&_}
-use mathlib.Core.List.{List, [], _∷_, List·Memᴰ, List·Memᴰ·head, List·Memᴰ·tail}
+use mathlib.Core.Bool.{Bool, _&&_}
+use mathlib.Core.List.{List, _∷_, List·Memᴰ, List·Memᴰ·head, List·Memᴰ·tail}
 use mathlib.Core.Option.{Option, none, some}
-use lib.Dec.{T, eqb, eqb→eq}
-use Rattle.meaning.specs.Basics.{all}
+use lib.Dec.{T}
+use Rattle.meaning.specs.Basics.{all, sameBytes}
 use Rattle.meaning.specs.Settings.{roomsOf, roomsInRange, bytesNeeded, settingsOf, settingsInRange, lookupOf, entityInRange, asdOrGrnInRange, lookupInRange, numberOf, numberInRange, dialledInRange}
 use Rattle.meaning.specs.Filters.{filterOf, filterInRange, fitsNumber, rank, compareFilters}
 use Rattle.meaning.specs.Rules.{firstLargest, weight, chosenPlace, chosen}
@@ -14,49 +12,28 @@ use Rattle.meaning.specs.Groups.{nothingWithoutCA, oneFormat, formatStan
 use Rattle.meaning.specs.Conditioning.{stretchOf, valueFrom, conditionedFrom}
 use Rattle.meaning.specs.Services.{atStart, responded, inprtg, rnSet, cdpnnp, asdlkup, grnlkup, cdial, carryOut, eightPlaces, valueToSend}
 use Rattle.meaning.specs.Plan.{fresh, withSlot, withRules}
-use Rattle.meaning.specs.Answer.{refused, unserved, served, outgoingClass, formatted, afterServices, answerBy, answerOf}
+use Rattle.meaning.specs.Answer.{refused, unserved, served, outgoingClass, formatted, afterServices, answerBy, answerWith, answerOf}
 use Rattle.meaning.specs.Reads.{conditionedBy}
 use Rattle.meaning.specs.Calls.{bodyLength, openingLines, addSetLines, addRuleLines, refusal, lacksBytes, refusalsFrom, after}
 use Rattle.meaning.specs.Examples.{MEMORY, Row, shown, table, Holds}
-
-sameList : List ℕ → List ℕ → Bool
-sameList [] [] = true
-sameList [] (y ∷ ys) = false
-sameList (x ∷ xs) [] = false
-sameList (x ∷ xs) (y ∷ ys) = eqb x y && sameList xs ys
-
-and-left : (a b : Bool) → T (a && b) → T a
-and-left true b t = tt
-and-left false b t = t
-
-and-right : (a b : Bool) → T (a && b) → T b
-and-right true b t = t
-and-right false b t = absurd t
-
-same-list : (xs ys : List ℕ) → T (sameList xs ys) → xs ≡ ys
-unfolding sameList
-same-list [] [] t = refl
-same-list [] (y ∷ ys) t = absurd t
-same-list (x ∷ xs) [] t = absurd t
-same-list (x ∷ xs) (y ∷ ys) t =
-    ap₂ _∷_ (eqb→eq x y (and-left (eqb x y) (sameList xs ys) t)) (same-list xs ys (and-right (eqb x y) (sameList xs ys) t))
+use Rattle.meaning.proofs.Tests.{and-left, and-right, same-bytes}
 
 rowHolds : Row → Bool
-rowHolds r = sameList (refusalsFrom (lacksBytes MEMORY) none (r .calls)) (r .numbers) && sameList (shown (r .query) (r .calls)) (r .result)
+rowHolds r = sameBytes (refusalsFrom (lacksBytes MEMORY) none (r .calls)) (r .numbers) && sameBytes (shown (r .query) (r .calls)) (r .result)
 
 row-holds : (r : Row) → T (rowHolds r) → Holds r
 unfolding rowHolds
 row-holds r t =
-    let ns = sameList (refusalsFrom (lacksBytes MEMORY) none (r .calls)) (r .numbers) in
-    let rs = sameList (shown (r .query) (r .calls)) (r .result) in
-    record { numbers = same-list _ _ (and-left ns rs t); result = same-list _ _ (and-right ns rs t) }
+    let ns = sameBytes (refusalsFrom (lacksBytes MEMORY) none (r .calls)) (r .numbers) in
+    let rs = sameBytes (shown (r .query) (r .calls)) (r .result) in
+    record { numbers = same-bytes _ _ (and-left ns rs t); result = same-bytes _ _ (and-right ns rs t) }
 
 every-row : (rs : List Row) → T (all rowHolds rs) → (r : Row) → List·Memᴰ r rs → Holds r
 every-row (x ∷ xs) t r (List·Memᴰ·head e) = rw e (row-holds x (and-left (rowHolds x) (all rowHolds xs) t))
 every-row (x ∷ xs) t r (List·Memᴰ·tail m) = every-row xs (and-right (rowHolds x) (all rowHolds xs) t) r m
 
 table-test : T (all rowHolds table)
-unfolding roomsOf roomsInRange bytesNeeded settingsOf settingsInRange lookupOf entityInRange asdOrGrnInRange lookupInRange numberOf numberInRange dialledInRange filterOf filterInRange fitsNumber rank compareFilters firstLargest weight chosenPlace chosen valueOf actionsOf mostOf caInRange contentInRange nothingWithoutCA oneFormat formatStands fpfxFirst oneXAction precedence isBacked formattingBacked groupsHold fpfxMeetsPrefix casFit fit stretchOf valueFrom conditionedFrom atStart responded inprtg rnSet cdpnnp asdlkup grnlkup cdial carryOut eightPlaces valueToSend fresh withSlot withRules refused unserved served outgoingClass formatted afterServices answerBy answerOf conditionedBy bodyLength openingLines addSetLines addRuleLines refusal after sameList rowHolds table
+unfolding roomsOf roomsInRange bytesNeeded settingsOf settingsInRange lookupOf entityInRange asdOrGrnInRange lookupInRange numberOf numberInRange dialledInRange filterOf filterInRange fitsNumber rank compareFilters firstLargest weight chosenPlace chosen valueOf actionsOf mostOf caInRange contentInRange nothingWithoutCA oneFormat formatStands fpfxFirst oneXAction precedence isBacked formattingBacked groupsHold fpfxMeetsPrefix casFit fit stretchOf valueFrom conditionedFrom atStart responded inprtg rnSet cdpnnp asdlkup grnlkup cdial carryOut eightPlaces valueToSend fresh withSlot withRules refused unserved served outgoingClass formatted afterServices answerBy answerWith answerOf conditionedBy bodyLength openingLines addSetLines addRuleLines refusal after rowHolds table
 table-test = tt
 
 -- every row of the table holds

@@ -20,6 +20,7 @@ use Rattle.meaning.specs.Calls.{Operation, openPlan, addSet, replaceSet,
 use Rattle.meaning.specs.LookBack.{acceptedFrom, accepted, openingAfter, lastOpening, contentAfter, lastContent, setAfter, lastSet}
 use Rattle.meaning.specs.History.{rising, removal, PutIn, EveryList, FromOpening, EveryOpenedList, ListsExactly}
 use Rattle.meaning.proofs.Tests.{is-true, is-false, true-is, false-is, and-left, and-right, and-both, none-counted}
+use Rattle.meaning.proofs.CallKinds.{isOpening, plan-lines}
 use Rattle.meaning.proofs.Soundness.{Sound, sound-of, SoundIf, accepted-passed, accepted-sound, names-held}
 use Rattle.meaning.proofs.ReadBack.{heldIn, setIn, ReadsBack, reads-back, empty-slots}
 use Rattle.meaning.proofs.Listings.{rising-listed, one-list, lists-named, distinct-filters}
@@ -66,27 +67,9 @@ unfolding after
 after-refused lacks s c e = rw e
 
 -- where nothing is in, no call but an opening is accepted
-abbrev isOpening : Operation → Bool
-isOpening openPlan = true
-isOpening addSet = false
-isOpening replaceSet = false
-isOpening removeSet = false
-isOpening addRule = false
-isOpening changeRule = false
-isOpening removeRule = false
-
-lines-none : (o : Operation) (lacks : List ℕ → Bool) (b : List ℕ) → isOpening o ≡ false → firstOf (linesOf o lacks none b) ≡ PLAN
-lines-none openPlan lacks b e = absurd (let z : _≡_ {A = ℕ} 0 1 = cc in omega arith)
-lines-none addSet lacks b e = refl
-lines-none replaceSet lacks b e = refl
-lines-none removeSet lacks b e = refl
-lines-none addRule lacks b e = refl
-lines-none changeRule lacks b e = refl
-lines-none removeRule lacks b e = refl
-
 refused-none : (lacks : List ℕ → Bool) (o : Operation) (b : List ℕ) → isOpening o ≡ false → refusal lacks none (record { operation = o; body = b }) ≡ 0 → ⊥
 refused-none lacks o b e q =
-    omega (arith, accepted-passed lacks none (record { operation = o; body = b }) q .checks, lines-none o lacks (bodyOf (record { operation = o; body = b })) e)
+    omega (arith, accepted-passed lacks none (record { operation = o; body = b }) q .checks, plan-lines o lacks (bodyOf (record { operation = o; body = b })) e)
 
 -- the opening in force after an accepted call
 record Opened (p : Plan) (o : Operation) (b : List ℕ) (before : Option (List ℕ)) : Type 0 where

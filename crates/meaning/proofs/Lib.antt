@@ -1,4 +1,6 @@
 pub mod Tests
+pub mod Telling
+pub mod CallKinds
 pub mod ListingOrder
 pub mod Largest
 pub mod RuleLists

@@ -19,7 +19,7 @@ use Rattle.meaning.proofs.Tests.{is-true, and-left, and-right, and-both
 abbrev pub before : Filter → Rule → Bool
 before f r = isBefore f (filterIn r)
 
-is-lt : (o : Ordering) → T (isLt o) → o ≡ Ordering·lt
+pub is-lt : (o : Ordering) → T (isLt o) → o ≡ Ordering·lt
 is-lt Ordering·lt t = refl
 is-lt Ordering·eq t = absurd t
 is-lt Ordering·gt t = absurd t

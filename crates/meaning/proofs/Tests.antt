@@ -1,16 +1,16 @@
 -- Laws of Boolean tests, of tests over lists, and of a list of checks in order.
 use Prim.Native.Nat.{ℕ, zero, suc, _+_, _≤_, _<_}
-use mathlib.Core.Path.{_≡_, refl, ap, sym, _∙_}
+use mathlib.Core.Path.{_≡_, refl, ap, ap₂, sym, _∙_}
 use mathlib.Core.Logic.{_↔_}
 use mathlib.Core.Bool.{Bool, true, false, _&&_, _||_, not}
 use mathlib.Core.List.{List, [], _∷_, _++_, List·Memᴰ, List·Memᴰ·head, List·Memᴰ·tail}
 use mathlib.Core.Option.{Option, none, some}
 use native.Mathlib.Omega.{arith}
 use native.Mathlib.Nat.{le-of-suc-le-suc}
-use lib.ListN.{length, take, drop, getD, set, replicate}
-use lib.Dec.{T, T-not, eqb}
+use lib.ListN.{length, take, drop, getD, set, replicate, length-take}
+use lib.Dec.{T, T-not, leb, eqb, leb→le, eqb-refl, eqb→eq}
 use borrow.Author.Tests.{eqb-true, eqb-false}
-use Rattle.meaning.specs.Basics.{if_then_else_, all, any, count, allOf, isZero, isSome}
+use Rattle.meaning.specs.Basics.{if_then_else_, all, any, count, allOf, within, isZero, isSome, isDigit, sameBytes, digitsOf, digitsInRange}
 use Rattle.meaning.specs.Refusals.{Line, firstOf}
 
 -- BOOLEANS
@@ -204,3 +204,28 @@ at-below p (suc n) t k h = go (eqb k n) refl (at-below p n (and-right (p n) (all
     go : (c : Bool) → eqb k n ≡ c → (k < n → T (p k)) → T (p k)
     go true e ih = rw (eqb-true k n e) (and-left (p n) (allBelow p n) t)
     go false e ih = ih (omega (arith, eqb-false k n e))
+
+-- BYTE FOR BYTE
+
+pub same-self : (xs : List ℕ) → T (sameBytes xs xs)
+same-self [] = tt
+same-self (x ∷ xs) = and-both (eqb x x) (sameBytes xs xs) (eqb-refl x) (same-self xs)
+
+pub same-bytes : (xs ys : List ℕ) → T (sameBytes xs ys) → xs ≡ ys
+same-bytes [] [] t = refl
+same-bytes [] (y ∷ ys) t = absurd t
+same-bytes (x ∷ xs) [] t = absurd t
+same-bytes (x ∷ xs) (y ∷ ys) t =
+    ap₂ _∷_ (eqb→eq x y (and-left (eqb x y) (sameBytes xs ys) t)) (same-bytes xs ys (and-right (eqb x y) (sameBytes xs ys) t))
+
+-- DIGIT STRINGS
+
+-- one in range says that it has so many digits at most, and has no more
+pub digits-said : (lo hi : ℕ) (b : List ℕ) → T (digitsInRange lo hi b) → getD b 0 0 ≤ hi
+digits-said lo hi [] t = absurd t
+digits-said lo hi (n ∷ ds) t =
+    leb→le n hi (and-right (leb lo n) (leb n hi) (and-left (within lo hi n) (all isDigit (take n ds) && all isZero (drop n ds)) t))
+
+pub digits-few : (lo hi : ℕ) (b : List ℕ) → T (digitsInRange lo hi b) → length (digitsOf b) ≤ hi
+digits-few lo hi [] t = absurd t
+digits-few lo hi (n ∷ ds) t = omega (arith, length-take n ds, digits-said lo hi (n ∷ ds) t)

@@ -80,15 +80,18 @@ afterServices incoming outgoing s out =
     if responded s then served RESPONDED incoming s [] else
     if s .withheld then served UNCHANGED incoming s [] else formatted outgoing s out
 
--- what a rule with this filter and the actions of its set make of a number: "No CA: outcome 1 ESCAPED. Otherwise condition .. Then the SAs"
-unfoldable pub answerBy : Settings → Number → Filter → ActionSet → Answer
-answerBy settings n f s =
-    let prefix : ℕ = length (f .prefix) in
+-- what a rule whose prefix has so many digits, and the actions of its set, make of a number: "No CA: outcome 1 ESCAPED. Otherwise condition .. Then the SAs"
+unfoldable pub answerWith : Settings → Number → ℕ → ActionSet → Answer
+answerWith settings n prefix s =
     let stage : Stage = serve settings (n .lookup) (s .fas) (s .sas) atStart in
     let value : ℕ → List ℕ = valueFrom (settings .country) prefix (n .digits) (s .cas) in
     if isEmpty (s .cas) then unserved ESCAPED (outgoingClass (s .class) (n .class)) else
     if short prefix (length (n .digits)) (s .cas) then refused SHORT else
     afterServices (n .class) (outgoingClass (s .class) (n .class)) stage (join (valueToSend settings value stage) (s .fas))
+
+-- by its filter
+unfoldable pub answerBy : Settings → Number → Filter → ActionSet → Answer
+answerBy settings n f s = answerWith settings n (length (f .prefix)) s
 
 -- "No filter fits: outcome 0 NO RULE"
 abbrev pub answerUnder : Plan → Number → Option Rule → Answer

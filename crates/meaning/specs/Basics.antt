@@ -67,6 +67,13 @@ beginsWith (p ∷ ps) (d ∷ ds) = eqb p d && beginsWith ps ds
 
 -- BYTES
 
+-- the same bytes, one by one
+abbrev pub sameBytes : List ℕ → List ℕ → Bool
+sameBytes [] [] = true
+sameBytes [] (y ∷ ys) = false
+sameBytes (x ∷ xs) [] = false
+sameBytes (x ∷ xs) (y ∷ ys) = eqb x y && sameBytes xs ys
+
 -- "Two-byte numbers: high byte first": the one at place `at`
 abbrev pub word : List ℕ → ℕ → ℕ
 word b at = getD b at 0 * 256 + getD b (at + 1) 0

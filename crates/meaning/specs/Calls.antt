@@ -89,6 +89,14 @@ kindOf addRule = ADD-RULE
 kindOf changeRule = CHANGE-RULE
 kindOf removeRule = REMOVE-RULE
 
+-- and back: what the call of a kind is to do; no kind that is not a call's is asked for
+unfoldable pub operationOf : ℕ → Operation
+operationOf k = getD (openPlan ∷ addSet ∷ replaceSet ∷ removeSet ∷ addRule ∷ changeRule ∷ []) k removeRule
+
+-- a call by its kind
+abbrev pub callOf : ℕ → List ℕ → Call
+callOf k body = record { operation = operationOf k; body = body }
+
 -- CUT: "a record's body is shorter than its kind says"
 abbrev pub isCut : Call → Bool
 isCut c = ltb (length (c .body)) (bodyLength (kindOf (c .operation)))

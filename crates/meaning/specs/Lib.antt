@@ -16,6 +16,7 @@ pub mod View
 pub mod Reads
 pub mod Numbers
 pub mod Calls
+pub mod Bodies
 pub mod LookBack
 pub mod History
 pub mod Records

@@ -3,7 +3,7 @@ use Prim.Native.Nat.{ℕ, zero, suc, _+_, _/_, _%_}
 use mathlib.Core.Bool.{Bool, true, false, _||_, not}
 use mathlib.Core.List.{List, [], _∷_, _++_, map}
 use mathlib.Core.Option.{Option, none, some}
-use lib.ListN.{length, take, drop, getD}
+use lib.ListN.{length, take, drop}
 use lib.Dec.{ltb, eqb}
 use Rattle.meaning.specs.Sizes.{DIGIT-ROOM, RUN-SETS, RUN-RULES}
 use Rattle.meaning.specs.Basics.{if_then_else_, isZero, word}
@@ -12,7 +12,7 @@ use Rattle.meaning.specs.Settings.{roomsOf}
 use Rattle.meaning.specs.Plan.{Plan}
 use Rattle.meaning.specs.Answer.{Answer, answer}
 use Rattle.meaning.specs.Reads.{Count, referrerCount, Listed, listing}
-use Rattle.meaning.specs.Calls.{Operation, openPlan, addSet, replaceSet, removeSet, addRule, changeRule, removeRule, Call, NUMBER, REFS, isKind, isCall, bodyLength, refusal, after}
+use Rattle.meaning.specs.Calls.{NUMBER, REFS, isKind, isCall, bodyLength, callOf, refusal, after}
 
 -- TEXT, as ASCII bytes
 
@@ -95,13 +95,6 @@ listText (some p) = listedLines (listing p) ++ endLine (length (listing p))
 -- "A program run uses at most 64 sets and 512 rules (more is ROOM there)": by each room (docs/DECISIONS.md, 1)
 unfoldable pub lacksProgramRoom : List ℕ → Bool
 lacksProgramRoom rooms = ltb RUN-SETS ((roomsOf rooms) .sets) || ltb RUN-RULES ((roomsOf rooms) .rules)
-
--- the call of a kind; no kind that is not a call's is asked for
-unfoldable pub operationOf : ℕ → Operation
-operationOf k = getD (openPlan ∷ addSet ∷ replaceSet ∷ removeSet ∷ addRule ∷ changeRule ∷ []) k removeRule
-
-abbrev pub callOf : ℕ → List ℕ → Call
-callOf k body = record { operation = operationOf k; body = body }
 
 -- the state of a run: the plan in force, none where the memory holds no sound plan
 pub record House : Type 0 where

@@ -1,6 +1,13 @@
 // The kinds of house records: the twin of those in specs/Calls.antt.
 ghost use mathlib.Core.Path.{_≡_};
-ghost use Rattle.meaning.specs.Calls.{kinds};
+ghost use Rattle.meaning.specs.Calls.{kinds, isKind, isCall};
+ghost use Rattle.meaning.specs.Bodies.{BodyBytes};
+use crate::sizes::FILTER_BYTES;
+use crate::sizes::NUMBER_BYTES;
+use crate::sizes::OPENING_BYTES;
+use crate::sizes::RULE_BODY;
+use crate::sizes::SET_BODY;
+use crate::sizes::SET_NUMBER_BYTES;
 
 // The calls that open and provision.
 pub const OPEN_PLAN: u8 = 0;
@@ -40,4 +47,36 @@ pub fn kinds() -> [u8; 10]
         REFS,
         LIST,
     ]
+}
+
+// How many bytes the body of a record has, by its kind; none for a byte that is no kind.
+pub fn body_length(kind: u8) -> usize
+    ensures { λ r. ⌜ BodyBytes kind r ⌝ }
+{
+    match kind {
+        OPEN_PLAN => OPENING_BYTES,
+        ADD_SET => SET_BODY,
+        REPLACE_SET => SET_BODY,
+        REMOVE_SET => SET_NUMBER_BYTES,
+        ADD_RULE => RULE_BODY,
+        CHANGE_RULE => RULE_BODY,
+        REMOVE_RULE => FILTER_BYTES,
+        NUMBER => NUMBER_BYTES,
+        REFS => SET_NUMBER_BYTES,
+        _ => 0,
+    }
+}
+
+// Whether a byte is a kind of house records.
+pub fn is_kind(kind: u8) -> bool
+    ensures { λ r. ⌜ r ≡ isKind kind ⌝ }
+{
+    kind <= LIST
+}
+
+// Whether it is the kind of a call that opens or provisions.
+pub fn is_call(kind: u8) -> bool
+    ensures { λ r. ⌜ r ≡ isCall kind ⌝ }
+{
+    kind <= REMOVE_RULE
 }

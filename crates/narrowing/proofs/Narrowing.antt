@@ -1,6 +1,6 @@
 -- Narrowing the slots digit by digit: at depth j the places left hold every rule that may still weigh more than the best so far, and each of
 -- them has the number's class and its first j digits.
-use Prim.Native.Nat.{ℕ, zero, suc, _+_, _*_, _-_, _≤_, _<_, zero-le, Ordering, Ordering·lt, Ordering·eq, Ordering·gt}
+use Prim.Native.Nat.{ℕ, zero, suc, _+_, _*_, _-_, _≤_, _<_, zero-le, Ordering·lt}
 use mathlib.Core.Path.{_≡_, refl, ap, sym, _∙_}
 use mathlib.Core.Logic.{_≢_}
 use mathlib.Core.Bool.{Bool, true, false}
@@ -14,9 +14,10 @@ use lib.Dec.{T, ltb, lit<}
 use borrow.Author.Tests.{ltb-true, ltb-false}
 use Rattle.meaning.specs.Sizes.{CLASS-AT, PREFIX-AT, PREFIX-DIGITS-AT, LENGTH-AT, RULE-WIDTH}
 use Rattle.meaning.specs.Basics.{all}
-use Rattle.meaning.specs.Filters.{Filter, filterOf, compareFilters, isLt, isBefore}
+use Rattle.meaning.specs.Filters.{Filter, filterOf, compareFilters, isBefore}
 use Rattle.meaning.specs.Rules.{Rule, filterIn, weight, chosenPlace, inOrder}
 use Rattle.meaning.proofs.Tests.{true-is, and-left, and-right, all-place}
+use Rattle.meaning.proofs.RuleLists.{is-lt}
 use Rattle.buffer.specs.Slots.{slots}
 use Rattle.buffer.proofs.SlotLaws.{slot-at}
 use Rattle.filter.specs.Slots.{FilterBytes, RuleArea, ruleOf, rulesOf}
@@ -66,11 +67,6 @@ module _ (n : ℕ) (m : List ℕ) (area : RuleArea n m) (k : ℕ) (inside : k < 
       ap (λ (ps : List ℕ). getD ps j 0) (prefix-is s bytes) ∙ getD-take (getD s PREFIX-AT 0) (drop PREFIX-DIGITS-AT s) j 0 l ∙ getD-drop PREFIX-DIGITS-AT s j 0 ∙ slot-byte m k (PREFIX-DIGITS-AT + j) w
 
 -- THE ORDER OF TWO PLACES
-
-is-lt : (o : Ordering) → T (isLt o) → o ≡ Ordering·lt
-is-lt Ordering·lt t = refl
-is-lt Ordering·eq t = absurd t
-is-lt Ordering·gt t = absurd t
 
 ordered : (rs : List Rule) (d : Rule) (a b : ℕ) → T (inOrder rs) → a < b → b < length rs → compareFilters (filterIn (getD rs a d)) (filterIn (getD rs b d)) ≡ Ordering·lt
 ordered [] d a b t h k = absurd (omega (arith, k))

@@ -15,7 +15,7 @@ use Rattle.meaning.specs.Filters.{Filter}
 use Rattle.meaning.specs.Actions.{ActionSet, actionsOf, casOf, codesOf, caBytes, saBytes, faBytes}
 use Rattle.meaning.specs.Conditioning.{short, valueFrom}
 use Rattle.meaning.specs.Services.{valueToSend, join}
-use Rattle.meaning.specs.Answer.{ESCAPED, RESPONDED, UNCHANGED, FORMATTED, Answer, refused, unserved, served, outgoingClass, formatted, afterServices, answerBy}
+use Rattle.meaning.specs.Answer.{ESCAPED, RESPONDED, UNCHANGED, FORMATTED, Answer, refused, unserved, served, outgoingClass, formatted, afterServices, answerBy, answerWith}
 use Rattle.meaning.specs.Answers.{answeredAs}
 use Rattle.meaning.specs.declared.Answered.{Answered}
 use Rattle.services.specs.declared.Served.{Served}
@@ -24,7 +24,7 @@ use Rattle.services.proofs.Going.{response-after, withheld-after, responded-aft
 use Rattle.formatting.specs.Joins.{JoinsInto}
 use Rattle.formatting.proofs.Joining.{outgoing, outgoing-after, joined-count, joined-few, joined-many}
 use Rattle.formatting.specs.Sources.{lookupIn}
-use Rattle.number.specs.Answering.{countedAs, servedBy, finished, answerWith, givenBy, Answerable}
+use Rattle.number.specs.Answering.{countedAs, servedBy, finished, givenBy, Answerable}
 use Rattle.number.specs.Promises.{HoldsAnswer, GivesAnswer}
 
 -- AN ANSWER GIVEN
@@ -163,5 +163,5 @@ module _ (settings body : List ℕ) (n : ℕ) (content out : List ℕ) (a : Answ
 
 -- the rule's filter is needed for its prefix's length alone
 pub answer-with : (settings : Settings) (n : Number) (f : Filter) (s : ActionSet) (prefix : ℕ) → prefix ≡ length (f .prefix) → answerBy settings n f s ≡ answerWith settings n prefix s
-unfolding answerBy answerWith
+unfolding answerBy
 answer-with settings n f s prefix e = rw e

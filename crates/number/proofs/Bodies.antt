@@ -1,15 +1,15 @@
 -- What a number's body in range has, and the answer by the rule chosen for it.
 use Prim.Native.Nat.{ℕ, _+_, _-_, _≤_}
 use mathlib.Core.Path.{_≡_, ap, sym, subst, _∙_}
-use mathlib.Core.Bool.{true, _&&_}
-use mathlib.Core.List.{List, _∷_}
+use mathlib.Core.Bool.{true}
+use mathlib.Core.List.{List}
 use mathlib.Core.Option.{Option, none}
 use native.Mathlib.Omega.{arith}
 use lib.ListN.{length, take, drop, getD, length-drop}
-use lib.Seq.{length-take-le, drop-cons}
-use lib.Dec.{T, leb, leb→le}
+use lib.Seq.{length-take-le, getD-take, getD-drop}
+use lib.Dec.{T, leb→le, lit<}
 use Rattle.meaning.specs.Sizes.{CLASS-AT, DIALLED-AT, DIALLED-DIGITS-AT, NUMBER-BYTES}
-use Rattle.meaning.specs.Basics.{all, isDigit, isZero, within, digitsInRange}
+use Rattle.meaning.specs.Basics.{part}
 use Rattle.meaning.specs.Settings.{Number, lookupOf, numberOf, lookupRanges, lookupInRange, numberRanges, numberInRange}
 use Rattle.meaning.specs.Rules.{filterIn, chosenPlace, chosen}
 use Rattle.meaning.specs.Actions.{actionsOf}
@@ -20,12 +20,13 @@ use Rattle.meaning.specs.declared.Answered.{Answered}
 use Rattle.meaning.specs.declared.Chosen.{Chosen}
 use Rattle.meaning.specs.declared.Chosen.the-variants.{At, NoRule}
 use Rattle.meaning.specs.declared.RulePlace.{RulePlace}
-use Rattle.meaning.proofs.Tests.{true-is, and-left, and-right, all-at}
+use Rattle.meaning.proofs.Tests.{true-is, all-at, digits-said}
 use Rattle.buffer.proofs.DigitLaws.{digits-at}
 use Rattle.plan.specs.Layout.{planOf}
 use Rattle.plan.proofs.ReadLaws.{sound-is}
-use Rattle.choice.specs.Chosen.{Prefix, NamedContent}
-use Rattle.choice.proofs.Chosen.{rulePlaced, ChosenAt, chosen-at, none-chosen}
+use Rattle.plan.specs.Readings.{Prefix, NamedContent}
+use Rattle.choice.proofs.Chosen.{ChosenAt, chosen-at, none-chosen}
+use Rattle.plan.proofs.PlacedRules.{rulePlaced}
 use Rattle.formatting.specs.Sources.{lookupIn, digitsIn}
 use Rattle.number.specs.Answering.{givenBy, Answerable, Digits, Known, Holdable, Placed}
 use Rattle.number.specs.Promises.{HoldsAnswer}
@@ -40,11 +41,8 @@ module _ (body : List ℕ) (whole : length body ≡ NUMBER-BYTES) (range : numbe
 
   pub digits-few : getD body DIALLED-AT 0 ≤ 32
   digits-few =
-      let is : drop DIALLED-AT body ≡ getD body DIALLED-AT 0 ∷ drop DIALLED-DIGITS-AT body = drop-cons body DIALLED-AT 0 (omega arith) in
-      let t : T (digitsInRange 0 32 (take 33 (getD body DIALLED-AT 0 ∷ drop DIALLED-DIGITS-AT body))) = rw is at (ranges 1) in
-      let ds : List ℕ = take 32 (drop DIALLED-DIGITS-AT body) in
-      let w : T (within 0 32 (getD body DIALLED-AT 0)) = and-left (within 0 32 (getD body DIALLED-AT 0)) (all isDigit (take (getD body DIALLED-AT 0) ds) && all isZero (drop (getD body DIALLED-AT 0) ds)) t in
-      leb→le (getD body DIALLED-AT 0) 32 (and-right (leb 0 (getD body DIALLED-AT 0)) (leb (getD body DIALLED-AT 0) 32) w)
+      let is : _≡_ {A = ℕ} (getD (part DIALLED-AT 33 body) 0 0) (getD body DIALLED-AT 0) = getD-take 33 (drop DIALLED-AT body) 0 0 (lit< tt) ∙ getD-drop DIALLED-AT body 0 0 in
+      rw is at (digits-said 0 32 (part DIALLED-AT 33 body) (ranges 1))
 
   pub digits-are : (n : ℕ) → n ≡ getD body DIALLED-AT 0 → Digits body (take (n + DIALLED-DIGITS-AT - DIALLED-DIGITS-AT) (drop DIALLED-DIGITS-AT body))
   unfolding numberOf

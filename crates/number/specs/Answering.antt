@@ -7,14 +7,12 @@ use mathlib.Core.Option.{some}
 use lib.ListN.{length, getD}
 use lib.Dec.{leb}
 use Rattle.meaning.specs.Sizes.{SETTINGS-BYTES, CONTENT-BYTES, CLASS-AT, NUMBER-BYTES}
-use Rattle.meaning.specs.Basics.{if_then_else_, isEmpty}
-use Rattle.meaning.specs.Refusals.{SHORT, LONG}
-use Rattle.meaning.specs.Settings.{Settings, Number, settingsOf, lookupOf, numberOf, numberInRange}
+use Rattle.meaning.specs.Basics.{if_then_else_}
+use Rattle.meaning.specs.Refusals.{LONG}
+use Rattle.meaning.specs.Settings.{settingsOf, lookupOf, numberOf, numberInRange}
 use Rattle.meaning.specs.Rules.{chosenPlace}
-use Rattle.meaning.specs.Actions.{ActionSet, actionsOf}
-use Rattle.meaning.specs.Conditioning.{short, valueFrom}
-use Rattle.meaning.specs.Services.{Stage, atStart, serve, valueToSend, join}
-use Rattle.meaning.specs.Answer.{ESCAPED, RESPONDED, UNCHANGED, FORMATTED, Answer, refused, unserved, outgoingClass, afterServices}
+use Rattle.meaning.specs.Actions.{actionsOf}
+use Rattle.meaning.specs.Answer.{RESPONDED, UNCHANGED, FORMATTED, Answer, refused, answerWith}
 use Rattle.meaning.specs.declared.Answered.{Answered}
 use Rattle.services.specs.declared.Served.{Served}
 use Rattle.formatting.specs.Sources.{lookupIn, digitsIn}
@@ -38,16 +36,7 @@ finished incoming class s out =
     if s .withheld then servedBy UNCHANGED incoming s [] else
     if leb (length out) 32 then servedBy FORMATTED class s out else refused LONG
 
--- document 01's answer by a rule, of whose filter it needs the length of the prefix alone
-unfoldable pub answerWith : Settings → Number → ℕ → ActionSet → Answer
-answerWith settings n prefix s =
-    let stage : Stage = serve settings (n .lookup) (s .fas) (s .sas) atStart in
-    let value : ℕ → List ℕ = valueFrom (settings .country) prefix (n .digits) (s .cas) in
-    if isEmpty (s .cas) then unserved ESCAPED (outgoingClass (s .class) (n .class)) else
-    if short prefix (length (n .digits)) (s .cas) then refused SHORT else
-    afterServices (n .class) (outgoingClass (s .class) (n .class)) stage (join (valueToSend settings value stage) (s .fas))
-
--- and over the bytes of the settings, the lookup and the content
+-- document 01's answer by a rule, over the bytes of the settings, the lookup and the content
 abbrev pub givenBy : List ℕ → List ℕ → ℕ → List ℕ → ℕ → List ℕ → Answer
 givenBy settings lookup class digits prefix content =
     answerWith (settingsOf settings) (record { class = class; digits = digits; lookup = lookupOf lookup }) prefix (actionsOf content)

@@ -1,7 +1,7 @@
 // Answering a number over a plan: the choice of a rule, conditioning, the service actions and formatting, with every field of the answer.
 use choice::choose;
-use choice::content_at;
-use choice::prefix_at;
+use plan::content_at;
+use plan::prefix_at;
 use conditioning::PLACES;
 use conditioning::mark_spans;
 use formatting::join_outgoing;
@@ -160,7 +160,7 @@ fn answer_by(
     ensures { λ r. ⌜ HoldsAnswer (givenBy (now (settings .entry)) (lookupIn (now (body .entry))) (getD (now (body .entry)) CLASS-AT 0) (digitsIn n (now (body .entry))) prefix (now (content .entry))) (now (out .exit)) r ⌝ }
 {
     let class = body[CLASS_AT];
-    let cas = ranges::cas_of(content);
+    let cas = actions::cas_of(content);
     let sent = outgoing_class(content[OUTGOING_AT], class);
     if actions::no_conditioning(cas) {
         return unserved(ESCAPED, sent);
@@ -171,11 +171,11 @@ fn answer_by(
         return refused(SHORT);
     }
     let s = services::service_stage(
-        ranges::sas_of(content),
+        actions::sas_of(content),
         settings,
         &body[LOOKUP_AT..VALUE_BYTES],
     );
-    let fas = ranges::fas_of(content);
+    let fas = actions::fas_of(content);
     finish(
         settings,
         body,
@@ -250,7 +250,7 @@ pub fn answer(plan: &[u8], body: &[u8], out: &mut [u8]) -> Answered
         return refused(ROOM);
     }
     let number = &body[0..NUMBER_BYTES];
-    if !settings::number_in_range(number) {
+    if !ranges::number_in_range(number) {
         return refused(RANGE);
     }
     answer_known(plan, number, out)

@@ -9,13 +9,13 @@ use native.Mathlib.Omega.{arith}
 use native.Mathlib.Nat.{div-add-mod', mod-lt}
 use lib.ListN.{length, take, drop, getD, length-append, length-take, length-drop, length-map, take-append-drop}
 use lib.Seq.{take-at, drop-at, take-length, drop-append-le, take-append-le, drop-drop, getD-drop, length-take-le}
-use lib.Dec.{T, eqb, leb, eqb→eq, leb→le, le→leb, eqb-refl}
+use lib.Dec.{T, leb, eqb→eq, leb→le, le→leb}
 use Rattle.meaning.specs.Sizes.{ROOMS-BYTES, SETTINGS-BYTES, CONTENT-BYTES, FILTER-BYTES, SET-AT, RULE-BODY, SETTINGS-AT, SETTINGS-END, SETS-AT, COUNT-AT, SET-WIDTH, RULE-WIDTH}
 use Rattle.meaning.specs.Basics.{if_then_else_, all, allOf, isZero, word, part}
 use Rattle.meaning.specs.Settings.{Rooms, roomsOf, bytesNeeded}
 use Rattle.meaning.specs.Rules.{Rule}
 use Rattle.meaning.specs.Plan.{Plan, roomsIn, sound, sized, contentRules, contentPasses, slotPasses, codePasses, codesPass}
-use Rattle.meaning.proofs.Tests.{is-true, true-is, and-left, and-right, and-both, all-at, each-all, same-tests}
+use Rattle.meaning.proofs.Tests.{is-true, true-is, and-left, and-right, all-at, each-all, same-tests, same-self, same-bytes}
 use Rattle.meaning.proofs.Soundness.{Sound, sound-of, sound-parts}
 use Rattle.buffer.proofs.ListLaws.{part-part}
 use Rattle.buffer.specs.Zeros.{zeros}
@@ -24,20 +24,7 @@ use Rattle.buffer.proofs.ZeroLaws.{length-zeros}
 use Rattle.buffer.proofs.SlotLaws.{length-flat, slots-flat}
 use Rattle.filter.specs.Slots.{ruleOf, rulesOf}
 use Rattle.plan.specs.Layout.{mark, wordBytes, headerImage, slotImage, ruleImage, setsImage, rulesImage, image, roomsAt, sizeOf, setRoom, ruleRoom, ruleCount, slotOf, slotsOf, planOf}
-use Rattle.plan.specs.State.{sameBytes, soundTests, soundOf, stateOf, restOf}
-
--- BYTE FOR BYTE
-
-pub same-self : (xs : List ℕ) → T (sameBytes xs xs)
-same-self [] = tt
-same-self (x ∷ xs) = and-both (eqb x x) (sameBytes xs xs) (eqb-refl x) (same-self xs)
-
-pub same-bytes : (xs ys : List ℕ) → T (sameBytes xs ys) → xs ≡ ys
-same-bytes [] [] t = refl
-same-bytes [] (y ∷ ys) t = absurd t
-same-bytes (x ∷ xs) [] t = absurd t
-same-bytes (x ∷ xs) (y ∷ ys) t =
-    ap₂ _∷_ (eqb→eq x y (and-left (eqb x y) (sameBytes xs ys) t)) (same-bytes xs ys (and-right (eqb x y) (sameBytes xs ys) t))
+use Rattle.plan.specs.State.{soundTests, soundOf, stateOf, restOf}
 
 -- two bytes of a number are the number
 pub word-bytes : (n : ℕ) → n / 256 * 256 + n % 256 ≡ n

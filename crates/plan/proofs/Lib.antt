@@ -1,3 +1,4 @@
 pub mod ImageLaws
 pub mod ReadLaws
 pub mod EditLaws
+pub mod PlacedRules

@@ -20,13 +20,13 @@ use Rattle.meaning.specs.History.{noRule}
 use Rattle.meaning.proofs.Tests.{true-is, and-left, and-right, and-both}
 use Rattle.buffer.proofs.ListLaws.{part-part, element-at}
 use Rattle.buffer.specs.Slots.{slots, Wide}
-use Rattle.buffer.proofs.SlotLaws.{length-slots, slot-at, slots-part, wide-slots}
+use Rattle.buffer.proofs.SlotLaws.{length-slots, slot-at, wide-slots}
 use Rattle.filter.specs.Slots.{ruleOf, rulesOf, prefixFits}
 use Rattle.filter.proofs.FilterLaws.{range-bytes}
 use Rattle.filter.proofs.RuleLaws.{length-rules, rule-at, rules-part, rulesFrom as rulesLeft, rules-full, rules-end, rules-more}
 use Rattle.plan.specs.Layout.{setRoom, ruleRoom, ruleCount, rulesFrom, slotOf, slotsOf, planOf}
 use Rattle.plan.specs.State.{soundOf}
-use Rattle.plan.specs.Readings.{RulesPart, SetsPart, Content}
+use Rattle.plan.specs.Readings.{RulesPart, Content}
 use Rattle.plan.proofs.ImageLaws.{SoundMemory, sound-memory}
 
 -- ROOMS AND COUNT
@@ -129,26 +129,11 @@ rules-part-is m e =
       };
     }
 
-pub sets-part-is : (m : List ℕ) → soundOf m ≡ true → SetsPart m (part SETS-AT (SET-WIDTH * setRoom m) m)
-unfolding planOf slotsOf
-sets-part-is m e =
-    let n = numbers m e in
-    record {
-      bytes = refl;
-      slots = ap (map slotOf) (slots-part SET-WIDTH (setRoom m) (SET-WIDTH * setRoom m) (drop SETS-AT m) (omega arith));
-      size = length-take-le (SET-WIDTH * setRoom m) (drop SETS-AT m) (rw (length-drop SETS-AT m) (omega (arith, n .size)));
-    }
-
--- the areas as they are lent, from a to an end behind it
+-- the area as it is lent, from a to an end behind it
 pub rules-lent : (m : List ℕ) (a k : ℕ) → soundOf m ≡ true → a ≡ SETS-AT + SET-WIDTH * setRoom m → k ≡ ruleRoom m → RulesPart m (take (a + RULE-WIDTH * k - a) (drop a m))
 rules-lent m a k e a-is k-is =
     let n : a + RULE-WIDTH * k - a ≡ RULE-WIDTH * ruleRoom m = omega arith in
     rw (n, a-is) (rules-part-is m e)
-
-pub sets-lent : (m : List ℕ) (b : ℕ) → soundOf m ≡ true → b ≡ SETS-AT + SET-WIDTH * setRoom m → SetsPart m (take (b - SETS-AT) (drop SETS-AT m))
-sets-lent m b e b-is =
-    let n : b - SETS-AT ≡ SET-WIDTH * setRoom m = omega arith in
-    rw n (sets-part-is m e)
 
 -- ONE SET
 

@@ -1,21 +1,14 @@
 -- Which memories are sound, and the plan that one holds: "sound" as document 01 and docs/LAYOUT.md say.
 use Prim.Native.Nat.{ℕ}
-use mathlib.Core.Bool.{Bool, true, false, _&&_}
+use mathlib.Core.Bool.{Bool}
 use mathlib.Core.List.{List, [], _∷_, _++_}
 use mathlib.Core.Option.{Option, none, some}
 use lib.ListN.{length, take, drop}
-use lib.Dec.{leb, eqb}
+use lib.Dec.{leb}
 use Rattle.meaning.specs.Sizes.{SETS-AT}
-use Rattle.meaning.specs.Basics.{if_then_else_, allOf}
+use Rattle.meaning.specs.Basics.{if_then_else_, allOf, sameBytes}
 use Rattle.meaning.specs.Plan.{Plan, sound}
 use Rattle.plan.specs.Layout.{image, sizeOf, planOf}
-
--- byte for byte
-abbrev pub sameBytes : List ℕ → List ℕ → Bool
-sameBytes [] [] = true
-sameBytes [] (y ∷ ys) = false
-sameBytes (x ∷ xs) [] = false
-sameBytes (x ∷ xs) (y ∷ ys) = eqb x y && sameBytes xs ys
 
 -- it has all that stands before the sets and the size that its rooms need, the plan that it holds is sound, and its bytes are that plan's image
 abbrev pub soundTests : List ℕ → List Bool

@@ -6,22 +6,24 @@ ghost use mathlib.Core.Option.{none, some};
 ghost use Prim.Native.Nat.{_+_, _*_, _≤_, _<_};
 ghost use lib.ListN.{length, drop, getD};
 ghost use Rattle.meaning.specs.Sizes.{ROOMS-BYTES, SETTINGS-BYTES, CONTENT-BYTES, FILTER-BYTES, HEADER-BYTES, SETS-AT, SET-WIDTH, RULE-WIDTH};
-ghost use Rattle.meaning.specs.Basics.{isSome, count};
+ghost use Rattle.meaning.specs.Basics.{isSome, count, word};
 ghost use Rattle.meaning.specs.Settings.{roomsOf, bytesNeeded};
 ghost use Rattle.meaning.specs.Rules.{names};
 ghost use Rattle.meaning.specs.Plan.{held, referrers, fresh, withSlot, withRules};
+ghost use Rattle.meaning.specs.Reads.{overRoom};
 ghost use Rattle.meaning.specs.History.{noRule};
 ghost use Rattle.meaning.specs.Answers.{setOf};
 ghost use Rattle.buffer.specs.Slots.{insertAt, removeAt};
 ghost use Rattle.filter.specs.Slots.{rulesOf, RuleArea};
 ghost use Rattle.plan.specs.Layout.{headerImage, slotImage, ruleImage, image, setRoom, ruleRoom, ruleCount, planOf};
 ghost use Rattle.plan.specs.State.{soundOf, restOf};
-ghost use Rattle.plan.specs.Readings.{Number, RulesStart, RulesPart, SetsPart, Content};
+ghost use Rattle.plan.specs.Readings.{Number, RulesStart, RulesPart, Content, RuleSlot, Prefix, NamedContent};
 ghost use Rattle.plan.specs.Edits.{ruleWith, renamedAt};
 use meaning::RulePlace;
 use meaning::SetNumber;
 use meaning::sizes::CONTENT_AT;
 use meaning::sizes::COUNT_AT;
+use meaning::sizes::PREFIX_AT;
 use meaning::sizes::ROOMS_AT;
 use meaning::sizes::ROOMS_END;
 use meaning::sizes::RULE_WIDTH;
@@ -90,13 +92,20 @@ pub fn rules<'a>(memory: &'a [u8]) -> &'a [u8]
     &memory[a..e]
 }
 
-// The set slots.
-pub fn sets<'a>(memory: &'a [u8]) -> &'a [u8]
-    requires { ⌜ soundOf (now memory) ≡ true ⌝ }
-    ensures { λ r. ⌜ SetsPart (now (memory .entry)) (now r) ⌝ }
+// The set number at a place of some bytes.
+pub fn set_number(bytes: &[u8], at: usize) -> SetNumber
+    requires { ⌜ at + 1 < length (now bytes) ⌝ }
+    ensures { λ r. ⌜ r ≡ setOf (word (now (bytes .entry)) at) ⌝ }
 {
-    let e = rules_start(memory);
-    &memory[SETS_AT..e]
+    SetNumber(buffer::word(bytes, at) as u16)
+}
+
+// Whether a set number is at or over the room.
+pub fn is_over_room(memory: &[u8], set: SetNumber) -> bool
+    requires { ⌜ HEADER-BYTES ≤ length (now memory) ⌝ }
+    ensures { λ r. ⌜ r ≡ overRoom (planOf (now (memory .entry))) (set .0) ⌝ }
+{
+    set_room(memory) <= set.0 as usize
 }
 
 // Where the slot of a set number begins.
@@ -111,7 +120,7 @@ pub fn is_held(memory: &[u8], set: SetNumber) -> bool
     requires { ⌜ soundOf (now memory) ≡ true ⌝ }
     ensures { λ r. ⌜ r ≡ isSome (held (planOf (now (memory .entry))) (set .0)) ⌝ }
 {
-    if set_room(memory) <= set.0 as usize {
+    if is_over_room(memory, set) {
         return false;
     }
     let at = set_start(set);
@@ -135,6 +144,36 @@ pub fn set_named(memory: &[u8], place: RulePlace) -> SetNumber
     ensures { λ r. ⌜ r ≡ setOf (getD (planOf (now (memory .entry)) .rules) (place .0) noRule .set) ⌝ }
 {
     filter::set_at(rules(memory), place)
+}
+
+// The slot of the rule at a place.
+pub fn rule_slot<'a>(memory: &'a [u8], place: RulePlace) -> &'a [u8]
+    requires { ⌜ (soundOf (now memory) ≡ true) × (place .0 < ruleCount (now memory)) ⌝ }
+    ensures { λ r. ⌜ RuleSlot (getD (planOf (now (memory .entry)) .rules) (place .0) noRule) (now r) ⌝ }
+{
+    let area = rules(memory);
+    let k = place.0 as usize;
+    let a = RULE_WIDTH * k;
+    let e = a + RULE_WIDTH;
+    &area[a..e]
+}
+
+// How many digits the prefix of the rule at a place has.
+pub fn prefix_at(memory: &[u8], place: RulePlace) -> usize
+    requires { ⌜ (soundOf (now memory) ≡ true) × (place .0 < ruleCount (now memory)) ⌝ }
+    ensures { λ r. ⌜ Prefix (getD (planOf (now (memory .entry)) .rules) (place .0) noRule) r ⌝ }
+{
+    let slot = rule_slot(memory, place);
+    buffer::wide(slot[PREFIX_AT])
+}
+
+// The content of the set that the rule at a place names.
+pub fn content_at<'a>(memory: &'a [u8], place: RulePlace) -> &'a [u8]
+    requires { ⌜ (soundOf (now memory) ≡ true) × (place .0 < ruleCount (now memory)) ⌝ }
+    ensures { λ r. ⌜ NamedContent (planOf (now (memory .entry))) (getD (planOf (now (memory .entry)) .rules) (place .0) noRule) (now r) ⌝ }
+{
+    let set = set_named(memory, place);
+    content(memory, set)
 }
 
 // How many of the first `held` rules of an area name a set.

@@ -9,7 +9,7 @@ use lib.ListN.{length, take, drop, length-append, length-drop, drop-of-length-le
 use lib.Seq.{take-at, drop-at, take-add, drop-drop, drop-append-le, length-take-le}
 use borrow.Rule.Slice.PartMut.{midOf, putMid, postOf, post-is}
 use Rattle.meaning.specs.Basics.{writtenOver}
-use Rattle.blocks.proofs.PlaceLaws.{rest-is}
+use Rattle.buffer.proofs.ListLaws.{rest-is}
 use Rattle.blocks.proofs.OverLaws.{length-over}
 use Rattle.run.specs.Runs.{InRun}
 use Rattle.record.specs.Turns.{turn}

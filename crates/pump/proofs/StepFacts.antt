@@ -13,8 +13,8 @@ use Rattle.meaning.specs.Refusals.{KIND, CUT, PLAN}
 use Rattle.meaning.specs.Plan.{Plan}
 use Rattle.meaning.specs.Answer.{Answer, answer}
 use Rattle.meaning.specs.Reads.{Count, referrerCount, Listed, listing}
-use Rattle.meaning.specs.Calls.{NUMBER, REFS, LIST, isKind, isCall, bodyLength, refusal, after}
-use Rattle.meaning.specs.Records.{House, withPlan, decimal, digitsText, prefixText, lengthText, line, okLine, noLine, acceptedLine, numberLine, refsLine, listedLine, listedLines, endLine, listText, lacksProgramRoom, callOf, recordText, recordHouse}
+use Rattle.meaning.specs.Calls.{NUMBER, REFS, LIST, isKind, isCall, bodyLength, refusal, after, callOf}
+use Rattle.meaning.specs.Records.{House, withPlan, decimal, digitsText, prefixText, lengthText, line, okLine, noLine, acceptedLine, numberLine, refsLine, listedLine, listedLines, endLine, listText, lacksProgramRoom, recordText, recordHouse}
 use Rattle.plan.specs.State.{stateOf}
 use Rattle.changes.specs.Promise.{memoryOf}
 use Rattle.text.specs.Writes.{LONGEST}

@@ -30,8 +30,9 @@ use Rattle.plan.specs.Layout.{planOf}
 use Rattle.plan.specs.State.{soundOf}
 use Rattle.plan.proofs.ImageLaws.{state-some, state-none}
 use Rattle.plan.proofs.ReadLaws.{sound-is}
-use Rattle.choice.specs.Chosen.{Prefix, NamedContent}
-use Rattle.choice.proofs.Chosen.{rulePlaced, chosen-at, none-chosen}
+use Rattle.plan.specs.Readings.{Prefix, NamedContent}
+use Rattle.choice.proofs.Chosen.{chosen-at, none-chosen}
+use Rattle.plan.proofs.PlacedRules.{rulePlaced}
 use Rattle.reads.specs.Promises.{GivesRead, ConditionedPromise}
 use Rattle.reads.specs.Applies.{Applies}
 

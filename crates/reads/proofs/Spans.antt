@@ -25,8 +25,9 @@ use Rattle.conditioning.proofs.Walk.{stretch-by}
 use Rattle.plan.specs.Layout.{ruleCount, planOf}
 use Rattle.plan.specs.State.{soundOf, stateOf}
 use Rattle.plan.proofs.ImageLaws.{state-some, state-none}
-use Rattle.choice.specs.Chosen.{Prefix, NamedContent}
-use Rattle.choice.proofs.Chosen.{rulePlaced, chosen-at, none-chosen}
+use Rattle.plan.specs.Readings.{Prefix, NamedContent}
+use Rattle.choice.proofs.Chosen.{chosen-at, none-chosen}
+use Rattle.plan.proofs.PlacedRules.{rulePlaced}
 use Rattle.reads.specs.Promises.{SpanPromise}
 
 -- an empty span

@@ -47,7 +47,7 @@ pub fn set_content_known(plan: &[u8], set: SetNumber, out: &mut [u8]) -> Written
     requires { ⌜ (soundOf (now plan) ≡ true) × (SET-BODY ≤ length (now out)) ⌝ }
     ensures { λ r. ⌜ GivesRead (setContent (some (planOf (now (plan .entry)))) (length (now (out .entry))) (set .0)) (now (out .entry)) (now (out .exit)) r ⌝ }
 {
-    if changes::is_over_room(plan, set) {
+    if plan::is_over_room(plan, set) {
         return Written::Refused(Refusal::Range);
     }
     if !plan::is_held(plan, set) {
@@ -77,7 +77,7 @@ pub fn referrers_known(plan: &[u8], set: SetNumber) -> Counted
     requires { ⌜ soundOf (now plan) ≡ true ⌝ }
     ensures { λ r. ⌜ countOf r ≡ referrerCount (some (planOf (now (plan .entry)))) (set .0) ⌝ }
 {
-    if changes::is_over_room(plan, set) {
+    if plan::is_over_room(plan, set) {
         return Counted::Refused(Refusal::Range);
     }
     if !plan::is_held(plan, set) {
@@ -104,11 +104,11 @@ fn conditioned_at<'a>(plan: &'a [u8], place: RulePlace, digits: &'a [u8], out: &
     requires { ⌜ DIGIT-ROOM ≤ length (now out) ⌝ }
     ensures { λ r. ⌜ GivesRead (conditionedUnder (planOf (now (plan .entry))) (now (digits .entry)) (some (getD (planOf (now (plan .entry)) .rules) (place .0) noRule))) (now (out .entry)) (now (out .exit)) r ⌝ }
 {
-    let cas = ranges::cas_of(choice::content_at(plan, place));
+    let cas = actions::cas_of(plan::content_at(plan, place));
     if actions::no_conditioning(cas) {
         return Written::Bytes(0);
     }
-    let prefix = choice::prefix_at(plan, place);
+    let prefix = plan::prefix_at(plan, place);
     if conditioning::is_short(cas, prefix, digits.len()) {
         return Written::Refused(Refusal::Short);
     }
@@ -137,7 +137,7 @@ pub fn conditioned<'a>(plan: &'a [u8], class: u8, digits: &'a [u8], out: &mut [u
     if out.len() < DIGIT_ROOM {
         return Written::Refused(Refusal::Room);
     }
-    if !settings::dialled_in_range(class, digits) {
+    if !ranges::dialled_in_range(class, digits) {
         return Written::Refused(Refusal::Range);
     }
     conditioned_known(plan, class, digits, out)
@@ -163,8 +163,8 @@ pub fn span_known(plan: &[u8], class: u8, digits: &[u8], value: u8) -> Span
     match choice::choose(plan, class, digits) {
         Chosen::NoRule => Span { start: 0, count: 0 },
         Chosen::At(place) => {
-            let cas = ranges::cas_of(choice::content_at(plan, place));
-            let prefix = choice::prefix_at(plan, place);
+            let cas = actions::cas_of(plan::content_at(plan, place));
+            let prefix = plan::prefix_at(plan, place);
             conditioning::span_in(cas, prefix, digits.len(), value)
         }
     }
@@ -177,7 +177,7 @@ pub fn span(plan: &[u8], class: u8, digits: &[u8], value: u8) -> Span
     if !examiner::sound(plan) {
         return Span { start: 0, count: 0 };
     }
-    if !settings::dialled_in_range(class, digits) {
+    if !ranges::dialled_in_range(class, digits) {
         return Span { start: 0, count: 0 };
     }
     if !is_conditioned(value) {

@@ -19,7 +19,7 @@ use Rattle.meaning.specs.Actions.{LAST-CONDITIONED, CC, RN, INPRTG, CDPNNP, ASD
 use Rattle.meaning.specs.Conditioning.{short, stretchOf, digitsAt, valueFrom}
 use Rattle.meaning.specs.Services.{Stage, atStart, responded, inprtg, rnSet, cdpnnp, asdlkup, grnlkup, cdial, carryOut, serve, valueToSend, join}
 use Rattle.meaning.specs.Plan.{Plan, settingsIn, contentRules, contentPasses}
-use Rattle.meaning.specs.Answer.{NO-RULE, ESCAPED, RESPONDED, UNCHANGED, FORMATTED, Answer, refused, unserved, served, outgoingClass, formatted, afterServices, answerBy, answerUnder, answerOf}
+use Rattle.meaning.specs.Answer.{NO-RULE, ESCAPED, RESPONDED, UNCHANGED, FORMATTED, Answer, refused, unserved, served, outgoingClass, formatted, afterServices, answerBy, answerWith, answerUnder, answerOf}
 use Rattle.meaning.proofs.Tests.{and-left, and-right, and-both, each-all, all-at, all-take, all-drop}
 use Rattle.meaning.proofs.Choice.{Choice, noRule, theRule, choice}
 use Rattle.meaning.proofs.Soundness.{Sound, names-held}
@@ -348,7 +348,7 @@ module _ (s : Stage) (k : StageFine 8 s) where
       (served-printable UNCHANGED incoming [] (omega arith) i tt (omega arith)) (formatted-printable outgoing out o d))
 
 by-set : (settings : Settings) (n : Number) (f : Filter) (s : ActionSet) → SettingsFine settings → NumberFine n → SetFine s → Printable (answerBy settings n f s)
-unfolding answerBy
+unfolding answerBy answerWith
 by-set settings n f s sf nf af =
     let prefix : ℕ = length (f .prefix) in
     let stage : Stage = serve settings (n .lookup) (s .fas) (s .sas) atStart in

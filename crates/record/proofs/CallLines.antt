@@ -10,13 +10,13 @@ use lib.Dec.{eqb}
 use borrow.Author.Tests.{leb-true, ne-eqb, eq-eqb}
 use Rattle.meaning.specs.Basics.{if_then_else_, isZero, isSome, writtenOver}
 use Rattle.meaning.specs.Plan.{Plan}
-use Rattle.meaning.specs.Calls.{Operation, openPlan, addSet, replaceSet, removeSet, addRule, changeRule, removeRule, Call, REMOVE-RULE, LIST, isCall, bodyLength, bodyOf, refusal, made, after}
-use Rattle.meaning.specs.Records.{acceptedLine, lacksProgramRoom, operationOf, callOf, House, withPlan, recordText, recordHouse}
+use Rattle.meaning.specs.Calls.{Operation, openPlan, addSet, replaceSet, removeSet, addRule, changeRule, removeRule, Call, REMOVE-RULE, LIST, isCall, bodyLength, bodyOf, refusal, made, after, operationOf, callOf}
+use Rattle.meaning.specs.Records.{acceptedLine, lacksProgramRoom, House, withPlan, recordText, recordHouse}
 use Rattle.meaning.proofs.Tests.{is-false, at-below}
 use Rattle.plan.specs.Layout.{planOf}
 use Rattle.plan.specs.State.{soundOf, stateOf}
 use Rattle.changes.specs.Promise.{memoryOf}
-use Rattle.changes.proofs.PromiseLaws.{isOpening}
+use Rattle.meaning.proofs.CallKinds.{isOpening}
 use Rattle.run.specs.Runs.{InRun, RunProvides}
 use Rattle.run.proofs.RunLaws.{memory-kept, run-state}
 use Rattle.text.specs.Writes.{Writes}

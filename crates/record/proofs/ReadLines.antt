@@ -2,17 +2,16 @@
 use Prim.Native.Nat.{ℕ, zero, suc, _+_, _-_, _≤_, _<_}
 use mathlib.Core.Path.{_≡_, refl, ap, sym, _∙_}
 use mathlib.Core.Logic.{_≢_}
-use mathlib.Core.Bool.{Bool, true, false, _&&_, not}
+use mathlib.Core.Bool.{Bool, true, false, not}
 use mathlib.Core.List.{List, [], _∷_}
-use mathlib.Core.Option.{Option, none, some}
-use native.Mathlib.Nat.{not-suc-le-zero, le-of-suc-le-suc}
+use mathlib.Core.Option.{Option, some}
 use native.Mathlib.Omega.{arith}
-use lib.ListN.{length, take, drop, getD, getElem?, replicate, length-map, length-take, List·getD-map}
+use lib.ListN.{length, take, getD, getElem?, replicate, length-map, List·getD-map}
 use lib.Seq.{take-at}
-use lib.Dec.{T, leb, leb→le}
+use lib.Dec.{T}
 use borrow.Author.Tests.{leb-true, leb-false}
 use Rattle.meaning.specs.Sizes.{SET-NUMBER-BYTES, PREFIX-AT, FILTER-BYTES, NUMBER-BYTES, DIGIT-ROOM}
-use Rattle.meaning.specs.Basics.{if_then_else_, all, count, isZero, isDigit, isSome, within, word, part, padded, digitsOf, digitsInRange}
+use Rattle.meaning.specs.Basics.{if_then_else_, count, isSome, word, part, padded, digitsInRange}
 use Rattle.meaning.specs.Refusals.{PLAN, RANGE, ABSENT, Line, firstOf}
 use Rattle.meaning.specs.Filters.{filterOf, filterRanges, filterInRange}
 use Rattle.meaning.specs.Rules.{Rule, filterIn, names}
@@ -26,8 +25,8 @@ use Rattle.meaning.specs.Records.{noLine, numberLine, refsLine, listedLine, end
 use Rattle.meaning.specs.declared.Counted.{Counted}
 use Rattle.meaning.specs.declared.SetNumber.{SetNumber}
 use Rattle.meaning.specs.declared.ListedRule.{ListedRule}
-use Rattle.meaning.proofs.Tests.{and-left, and-right, all-at, all-place}
-use Rattle.buffer.proofs.ListLaws.{element-at}
+use Rattle.meaning.proofs.Tests.{and-right, all-at, all-place, digits-few}
+use Rattle.buffer.proofs.ListLaws.{element-at, no-element}
 use Rattle.plan.specs.Layout.{planOf}
 use Rattle.plan.specs.State.{soundOf, stateOf}
 use Rattle.plan.proofs.ImageLaws.{state-some, state-none}
@@ -94,12 +93,6 @@ module _ (m : List ℕ) where
 
 -- A RULE OF THE LISTING
 
-digits-few : (lo hi : ℕ) (b : List ℕ) → T (digitsInRange lo hi b) → length (digitsOf b) ≤ hi
-digits-few lo hi [] t = absurd t
-digits-few lo hi (n ∷ ds) t =
-    let most : n ≤ hi = leb→le n hi (and-right (leb lo n) (leb n hi) (and-left (within lo hi n) (all isDigit (take n ds) && all isZero (drop n ds)) t)) in
-    omega (arith, length-take n ds)
-
 prefix-range : (code : List ℕ) → T (codePasses code) → T (digitsInRange 0 16 (part PREFIX-AT 17 code))
 unfolding codePasses filterInRange
 prefix-range code t = all-at 1 (filterRanges code) (and-right (sized FILTER-BYTES code) (filterInRange code) t)
@@ -117,12 +110,6 @@ unfolding filterOf
 listed-in r t =
     let range = prefix-range (r .code) t in
     record { few = digits-few 0 16 (part PREFIX-AT 17 (r .code)) range; digits = rw (prefix-back (filterIn r .prefix)) (digits-of 0 16 (part PREFIX-AT 17 (r .code)) range) }
-
-module _ {A : Type 0} where
-  no-element : (xs : List A) (k : ℕ) → length xs ≤ k → getElem? xs k ≡ none
-  no-element [] k h = refl
-  no-element (x ∷ xs) zero h = absurd (not-suc-le-zero h)
-  no-element (x ∷ xs) (suc k) h = no-element xs k (le-of-suc-le-suc h)
 
 -- A LINE OF THE LISTING
 

@@ -106,7 +106,7 @@ fn number_record(masks: &[u8], plan: &[u8], opened: bool, body: &[u8], output: &
     if !opened {
         return text::no_line(PLAN, output);
     }
-    if !settings::number_in_range_by(masks, body) {
+    if !ranges::number_in_range_by(masks, body) {
         return text::no_line(RANGE, output);
     }
     answer_line(plan, body, output)
@@ -121,7 +121,7 @@ fn refs_record(plan: &[u8], opened: bool, body: &[u8], output: &mut [u8]) -> usi
         return text::no_line(PLAN, output);
     }
     text::refs_line(
-        reads::referrers_known(plan, changes::set_number(body, 0)),
+        reads::referrers_known(plan, plan::set_number(body, 0)),
         output,
     )
 }
@@ -211,7 +211,7 @@ fn whole_record(
     requires { ⌜ InRun (now plan) (run .opened) × (isKind kind ≡ true) × (length (now body) ≡ bodyLength kind) × (LONGEST ≤ length (now output)) × (now masks ≡ maskTable) ⌝ }
     ensures { λ r. ⌜ LinePromise (recordTurn (houseOf (now (plan .entry))) (run .lines) kind (now (body .entry))) (now (plan .entry)) (now (output .entry)) (now (plan .exit)) (now (output .exit)) r ⌝ }
 {
-    if changes::is_call(kind) {
+    if kinds::is_call(kind) {
         return call_record(plan, run, kind, body, output);
     }
     read_record(masks, plan, run, kind, body, output)
@@ -240,7 +240,7 @@ pub fn is_whole(input: &[u8]) -> bool
     if input.len() == 0 {
         return false;
     }
-    changes::body_length(input[0]) < input.len()
+    kinds::body_length(input[0]) < input.len()
 }
 
 // One step: a record of the input at hand, or a line of a listing, whose line goes to the front of the output. Whether the memory holds a sound plan is known, and
@@ -269,13 +269,13 @@ pub fn step_by(
         return Stepped::Full;
     }
     let kind = input[0];
-    if !changes::is_kind(kind) {
+    if !kinds::is_kind(kind) {
         return Stepped::Ends(Last {
             written: text::no_line(KIND, output),
             refusal: KIND,
         });
     }
-    let end = 1 + changes::body_length(kind);
+    let end = 1 + kinds::body_length(kind);
     if input.len() < end {
         return cut_record(ended, output);
     }

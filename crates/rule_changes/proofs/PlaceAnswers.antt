@@ -1,6 +1,6 @@
 -- What the lookup of a filter in the rule area of a sound plan says of the plan's rules.
 use Prim.Native.Nat.{ℕ}
-use mathlib.Core.Path.{_≡_, refl, ap, sym, subst, _∙_}
+use mathlib.Core.Path.{_≡_, refl, ap, sym, _∙_}
 use mathlib.Core.Bool.{Bool, true, false, true≢false}
 use mathlib.Core.List.{List}
 use lib.Dec.{T}
@@ -11,25 +11,23 @@ use Rattle.meaning.specs.declared.FilterPlace.{FilterPlace}
 use Rattle.meaning.specs.declared.FilterPlace.the-variants.{Held, Absent}
 use Rattle.meaning.specs.declared.RulePlace.{RulePlace}
 use Rattle.meaning.proofs.Soundness.{Sound}
-use Rattle.filter.specs.Slots.{rulesOf, RuleArea}
+use Rattle.filter.specs.Slots.{rulesOf}
 use Rattle.filter.specs.Place.{Place, held, absent, filterPlace, placeGiven}
 use Rattle.filter.proofs.PlaceLaws.{AbsentAt, HeldAt, absent-at, held-at}
 use Rattle.plan.specs.Layout.{ruleCount, planOf}
 use Rattle.plan.specs.State.{soundOf}
 use Rattle.plan.specs.Readings.{RulesPart}
 use Rattle.plan.proofs.ReadLaws.{sound-is}
+use Rattle.plan.proofs.PlacedRules.{rules-are}
 use Rattle.rule_changes.specs.Places.{placeNumber}
 
 pub in-order : (m : List ℕ) → soundOf m ≡ true → T (inOrder (planOf m .rules))
 in-order m s = sound-is m s .plan .order
 
-pub area-is : (m area : List ℕ) (n : ℕ) → RulesPart m area → n ≡ ruleCount m → RuleArea n area
-area-is m area n part count = subst (λ k. RuleArea k area) (sym count) (part .area)
-
 module _ (m area code : List ℕ) (n : ℕ) (r : FilterPlace) (part : RulesPart m area) (count : n ≡ ruleCount m) where
   module _ (e : placeGiven r ≡ filterPlace (filterOf code) (rulesOf n area)) where
     pub found : placeGiven r ≡ filterPlace (filterOf code) (planOf m .rules)
-    found = e ∙ ap (filterPlace (filterOf code)) (ap (λ k. rulesOf k area) count ∙ part .rules)
+    found = e ∙ ap (filterPlace (filterOf code)) (rules-are m area n part count)
 
     pub held-found : (k : RulePlace) → soundOf m ≡ true → r ≡ Held k → true ≡ any (hasFilter (filterOf code)) (planOf m .rules)
     held-found k s q = sym (held-at (filterOf code) (planOf m .rules) (k .0) (in-order m s) (sym found ∙ ap placeGiven q) .some-has)

@@ -1,14 +1,13 @@
 -- The numbers that the checks of the calls about rules give, check by check.
 use Prim.Native.Nat.{ℕ, _≤_}
 use mathlib.Core.Path.{_≡_, refl, ap, ap₂, sym, _∙_}
-use mathlib.Core.Bool.{Bool, true, false, _&&_, _||_, not}
+use mathlib.Core.Bool.{Bool, true, false, _&&_, _||_}
 use mathlib.Core.List.{List}
 use mathlib.Core.Option.{Option, none, some}
 use native.Mathlib.Omega.{arith}
 use lib.ListN.{length, take}
 use lib.Seq.{take-take, length-take-le}
 use lib.Dec.{eqb}
-use borrow.Author.Tests.{not-true, not-false}
 use Rattle.meaning.specs.Sizes.{FILTER-BYTES}
 use Rattle.meaning.specs.Basics.{if_then_else_, isSome}
 use Rattle.meaning.specs.Refusals.{RANGE, TAKEN, ABSENT, MISFIT, FULL, firstOf}
@@ -102,24 +101,14 @@ module _ (p : Plan) (b : List ℕ) where
 -- WHAT THE CODE'S TESTS SAY, the set number having been read from the body
 
 module _ (p : Plan) (b : List ℕ) (s : SetNumber) (s-is : s ≡ setOf (setGiven b)) (r t : Bool) where
-  pub room-said : r ≡ overRoom p (s .0) → r ≡ t → overRoom p (setGiven b) ≡ t
-  room-said e q = ap (λ (n : SetNumber). overRoom p (n .0)) (sym s-is) ∙ (sym e ∙ q)
+  pub room-told : r ≡ overRoom p (s .0) → r ≡ t → overRoom p (setGiven b) ≡ t
+  room-told e q = ap (λ (n : SetNumber). overRoom p (n .0)) (sym s-is) ∙ (sym e ∙ q)
 
-  pub held-said : r ≡ isSome (held p (s .0)) → r ≡ t → isSome (held p (setGiven b)) ≡ t
-  held-said e q = ap (λ (n : SetNumber). isSome (held p (n .0))) (sym s-is) ∙ (sym e ∙ q)
+  pub held-told : r ≡ isSome (held p (s .0)) → r ≡ t → isSome (held p (setGiven b)) ≡ t
+  held-told e q = ap (λ (n : SetNumber). isSome (held p (n .0))) (sym s-is) ∙ (sym e ∙ q)
 
-pub content-said : (p : Plan) (b : List ℕ) (s : SetNumber) (content : List ℕ) → s ≡ setOf (setGiven b) → held p (s .0) ≡ some content → held p (setGiven b) ≡ some content
-content-said p b s content s-is e = ap (λ (n : SetNumber). held p (n .0)) (sym s-is) ∙ e
-
--- a test that failed, or passed
-pub failed : {r test : Bool} → r ≡ test → not r ≡ true → test ≡ false
-failed {r} e h = sym e ∙ not-true r h
-
-pub passed : {r test : Bool} → r ≡ test → not r ≡ false → test ≡ true
-passed {r} e h = sym e ∙ not-false r h
-
-pub said : {r test t : Bool} → r ≡ test → r ≡ t → test ≡ t
-said e q = sym e ∙ q
+pub content-told : (p : Plan) (b : List ℕ) (s : SetNumber) (content : List ℕ) → s ≡ setOf (setGiven b) → held p (s .0) ≡ some content → held p (setGiven b) ≡ some content
+content-told p b s content s-is e = ap (λ (n : SetNumber). held p (n .0)) (sym s-is) ∙ e
 
 -- a filter in range at the front of a body
 pub code-bytes : (b : List ℕ) → FILTER-BYTES ≤ length b → filterInRange (codeGiven b) ≡ true → FilterBytes (codeGiven b)
@@ -129,9 +118,9 @@ code-bytes b h e =
     range-bytes (take FILTER-BYTES b) (omega arith) (true-is _ (ap filterInRange same ∙ e))
 
 -- the count of rules and the room for them as read
-pub full-said : (m : List ℕ) (n k : ℕ) → n ≡ ruleCount m → k ≡ ruleRoom m → eqb (length (planOf m .rules)) ((roomsIn (planOf m)) .rules) ≡ eqb n k
+pub full-told : (m : List ℕ) (n k : ℕ) → n ≡ ruleCount m → k ≡ ruleRoom m → eqb (length (planOf m .rules)) ((roomsIn (planOf m)) .rules) ≡ eqb n k
 unfolding planOf
-full-said m n k a e = ap₂ eqb (sym (rule-count-is m) ∙ sym a) (sym e)
+full-told m n k a e = ap₂ eqb (sym (rule-count-is m) ∙ sym a) (sym e)
 
 -- the test of a filter looks at its own bytes
 pub range-twice : (b : List ℕ) → filterInRange (take FILTER-BYTES (take FILTER-BYTES b)) ≡ filterInRange (codeGiven b)

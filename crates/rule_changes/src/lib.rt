@@ -51,8 +51,8 @@ fn add_rule_refusal(plan: &[u8], body: &[u8]) -> Provisioned
     requires { ⌜ (soundOf (now plan) ≡ true) × (length (now body) ≡ RULE-BODY) ⌝ }
     ensures { λ r. ⌜ numberOfProvisioned r ≡ firstOf (addRuleLines (planOf (now (plan .entry))) (now (body .entry))) ⌝ }
 {
-    let set = changes::set_number(body, SET_AT);
-    if changes::is_over_room(plan, set) {
+    let set = plan::set_number(body, SET_AT);
+    if plan::is_over_room(plan, set) {
         return Provisioned::Refused(Refusal::Range);
     }
     if !filter::filter_in_range(&body[0..FILTER_BYTES]) {
@@ -85,7 +85,7 @@ pub fn add_rule_known(plan: &mut [u8], body: &[u8]) -> Provisioned
                 plan,
                 place,
                 &body[0..FILTER_BYTES],
-                changes::set_number(body, SET_AT),
+                plan::set_number(body, SET_AT),
             );
             Provisioned::Accepted
         }
@@ -96,8 +96,8 @@ fn change_rule_refusal(plan: &[u8], body: &[u8]) -> Provisioned
     requires { ⌜ (soundOf (now plan) ≡ true) × (length (now body) ≡ RULE-BODY) ⌝ }
     ensures { λ r. ⌜ numberOfProvisioned r ≡ firstOf (changeRuleLines (planOf (now (plan .entry))) (now (body .entry))) ⌝ }
 {
-    let set = changes::set_number(body, SET_AT);
-    if changes::is_over_room(plan, set) {
+    let set = plan::set_number(body, SET_AT);
+    if plan::is_over_room(plan, set) {
         return Provisioned::Refused(Refusal::Range);
     }
     if !filter::filter_in_range(&body[0..FILTER_BYTES]) {
@@ -123,7 +123,7 @@ pub fn change_rule_known(plan: &mut [u8], body: &[u8]) -> Provisioned
         Provisioned::Refused(r) => Provisioned::Refused(r),
         Provisioned::Accepted => {
             let place = place_of(plan, &body[0..FILTER_BYTES]);
-            plan::rename_rule(plan, place, changes::set_number(body, SET_AT));
+            plan::rename_rule(plan, place, plan::set_number(body, SET_AT));
             Provisioned::Accepted
         }
     }

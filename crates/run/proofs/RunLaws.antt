@@ -16,15 +16,16 @@ use Rattle.meaning.specs.Basics.{if_then_else_, isZero, word}
 use Rattle.meaning.specs.Refusals.{PLAN, firstOf}
 use Rattle.meaning.specs.Settings.{roomsOf, bytesNeeded}
 use Rattle.meaning.specs.Plan.{Plan}
-use Rattle.meaning.specs.Calls.{Operation, openPlan, addSet, replaceSet, removeSet, addRule, changeRule, removeRule, Call, OPEN-PLAN, ADD-SET, REPLACE-SET, REMOVE-SET, ADD-RULE, CHANGE-RULE, REMOVE-RULE, isCall, kindOf, bodyLength, bodyOf, openedRooms, openingLines, lacksBytes, linesOf, refusal, made, isAccepted, after}
-use Rattle.meaning.specs.Records.{lacksProgramRoom, operationOf, callOf}
+use Rattle.meaning.specs.Calls.{Operation, openPlan, addSet, replaceSet, removeSet, addRule, changeRule, removeRule, Call, OPEN-PLAN, ADD-SET, REPLACE-SET, REMOVE-SET, ADD-RULE, CHANGE-RULE, REMOVE-RULE, isCall, kindOf, bodyLength, bodyOf, openedRooms, openingLines, lacksBytes, linesOf, refusal, made, isAccepted, after, operationOf, callOf}
+use Rattle.meaning.specs.Records.{lacksProgramRoom}
 use Rattle.meaning.proofs.Tests.{true-is, is-false, false-is, and-left, and-right, or-left-false, or-right-false, or-other, passed-at, at-below}
 use Rattle.meaning.proofs.Soundness.{accepted-passed}
 use Rattle.plan.specs.Layout.{planOf}
 use Rattle.plan.specs.State.{soundOf, stateOf}
 use Rattle.plan.proofs.ImageLaws.{sound-memory, state-some, state-none}
 use Rattle.changes.specs.Promise.{memoryOf, memoryAfter, Provides, calls}
-use Rattle.changes.proofs.PromiseLaws.{isOpening, unsound}
+use Rattle.changes.proofs.PromiseLaws.{unsound}
+use Rattle.meaning.proofs.CallKinds.{isOpening}
 use Rattle.changes.proofs.Chains.{after-call}
 use Rattle.run.specs.Runs.{RunProvides}
 

@@ -1,7 +1,6 @@
 -- Each call's checks in order, with the answers of the functions that decide them, and what a number that is answered says.
 use Prim.Native.Nat.{ℕ, _+_, _*_, _≤_, _<_}
-use mathlib.Core.Path.{_≡_, refl, ap, sym, _∙_}
-use mathlib.Core.Logic.{_≢_}
+use mathlib.Core.Path.{_≡_, refl, sym}
 use mathlib.Core.Bool.{Bool, true, false, _&&_, _||_, not}
 use mathlib.Core.List.{List, [], _∷_}
 use native.Mathlib.Omega.{arith}
@@ -18,40 +17,11 @@ use Rattle.meaning.specs.Groups.{groupsHold}
 use Rattle.meaning.specs.Plan.{Plan, held, referrers}
 use Rattle.meaning.specs.Reads.{overRoom}
 use Rattle.meaning.specs.Calls.{openedRooms, openedSettings, setNumber, contentGiven, lacksBytes, openingLines, addSetLines, replaceSetLines, removeSetLines}
-use Rattle.meaning.specs.Answers.{setOf, numberOfRefusal, numberOfProvisioned}
+use Rattle.meaning.specs.Answers.{setOf}
 use Rattle.meaning.specs.declared.SetNumber.{SetNumber}
-use Rattle.meaning.specs.declared.Provisioned.{Provisioned}
-use Rattle.meaning.specs.declared.Refusal.{Refusal}
-use Rattle.meaning.specs.declared.Refusal.the-variants.{Cut, Kind, Plan as NoPlan, Room, Range, Groups, Taken, Absent, Misfit, Full, InUse, Short, Long}
 use Rattle.meaning.proofs.Tests.{is-false, or-left-false, none-counted, passed-at}
 use Rattle.plan.specs.Layout.{setRoom, planOf}
 use Rattle.set_changes.proofs.FittingLaws.{fitting}
-
--- AN ANSWER'S NUMBER
-
--- a refusal's number is not 0
-pub refusal-number : (r : Refusal) → numberOfRefusal r ≢ 0
-refusal-number Cut = λ e. omega (arith, e)
-refusal-number Kind = λ e. omega (arith, e)
-refusal-number NoPlan = λ e. omega (arith, e)
-refusal-number Room = λ e. omega (arith, e)
-refusal-number Range = λ e. omega (arith, e)
-refusal-number Groups = λ e. omega (arith, e)
-refusal-number Taken = λ e. omega (arith, e)
-refusal-number Absent = λ e. omega (arith, e)
-refusal-number Misfit = λ e. omega (arith, e)
-refusal-number Full = λ e. omega (arith, e)
-refusal-number InUse = λ e. omega (arith, e)
-refusal-number Short = λ e. omega (arith, e)
-refusal-number Long = λ e. omega (arith, e)
-
--- the checks give the number of the case that was answered
-pub answered : {r case : Provisioned} {n : ℕ} → numberOfProvisioned r ≡ n → r ≡ case → n ≡ numberOfProvisioned case
-answered e h = sym e ∙ ap numberOfProvisioned h
-
--- what a call answered is the test that it stands for
-pub told : {r test value : Bool} → r ≡ test → r ≡ value → test ≡ value
-told e h = sym e ∙ h
 
 -- OPENING: rooms and settings in range, and the bytes that the rooms need
 

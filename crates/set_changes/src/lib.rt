@@ -33,10 +33,10 @@ pub fn opening_refusal(size: usize, body: &[u8]) -> Provisioned
     requires { ⌜ length (now body) ≡ OPENING-BYTES ⌝ }
     ensures { λ r. ⌜ numberOfProvisioned r ≡ firstOf (openingLines (lacksBytes size) (now (body .entry))) ⌝ }
 {
-    if !settings::rooms_in_range(&body[0..ROOMS_BYTES]) {
+    if !ranges::rooms_in_range(&body[0..ROOMS_BYTES]) {
         return Provisioned::Refused(Refusal::Range);
     }
-    if !settings::settings_in_range(&body[ROOMS_BYTES..OPENING_BYTES]) {
+    if !ranges::settings_in_range(&body[ROOMS_BYTES..OPENING_BYTES]) {
         return Provisioned::Refused(Refusal::Range);
     }
     if size < SETS_AT + SET_WIDTH * buffer::word(body, 0) + RULE_WIDTH * buffer::word(body, 2) {
@@ -66,11 +66,11 @@ fn add_set_refusal(plan: &[u8], body: &[u8]) -> Provisioned
     requires { ⌜ (soundOf (now plan) ≡ true) × (length (now body) ≡ SET-BODY) ⌝ }
     ensures { λ r. ⌜ numberOfProvisioned r ≡ firstOf (addSetLines (planOf (now (plan .entry))) (now (body .entry))) ⌝ }
 {
-    let set = changes::set_number(body, 0);
-    if changes::is_over_room(plan, set) {
+    let set = plan::set_number(body, 0);
+    if plan::is_over_room(plan, set) {
         return Provisioned::Refused(Refusal::Range);
     }
-    if !ranges::content_in_range(&body[SET_NUMBER_BYTES..SET_BODY]) {
+    if !actions::content_in_range(&body[SET_NUMBER_BYTES..SET_BODY]) {
         return Provisioned::Refused(Refusal::Range);
     }
     if !groups::groups_hold(&body[SET_NUMBER_BYTES..SET_BODY]) {
@@ -91,7 +91,7 @@ pub fn add_set_known(plan: &mut [u8], body: &[u8]) -> Provisioned
         Provisioned::Accepted => {
             plan::store_set(
                 plan,
-                changes::set_number(body, 0),
+                plan::set_number(body, 0),
                 &body[SET_NUMBER_BYTES..SET_BODY],
             );
             Provisioned::Accepted
@@ -125,11 +125,11 @@ fn replace_set_refusal(plan: &[u8], body: &[u8]) -> Provisioned
     requires { ⌜ (soundOf (now plan) ≡ true) × (length (now body) ≡ SET-BODY) ⌝ }
     ensures { λ r. ⌜ numberOfProvisioned r ≡ firstOf (replaceSetLines (planOf (now (plan .entry))) (now (body .entry))) ⌝ }
 {
-    let set = changes::set_number(body, 0);
-    if changes::is_over_room(plan, set) {
+    let set = plan::set_number(body, 0);
+    if plan::is_over_room(plan, set) {
         return Provisioned::Refused(Refusal::Range);
     }
-    if !ranges::content_in_range(&body[SET_NUMBER_BYTES..SET_BODY]) {
+    if !actions::content_in_range(&body[SET_NUMBER_BYTES..SET_BODY]) {
         return Provisioned::Refused(Refusal::Range);
     }
     if !groups::groups_hold(&body[SET_NUMBER_BYTES..SET_BODY]) {
@@ -158,7 +158,7 @@ pub fn replace_set_known(plan: &mut [u8], body: &[u8]) -> Provisioned
         Provisioned::Accepted => {
             plan::store_set(
                 plan,
-                changes::set_number(body, 0),
+                plan::set_number(body, 0),
                 &body[SET_NUMBER_BYTES..SET_BODY],
             );
             Provisioned::Accepted
@@ -170,8 +170,8 @@ fn remove_set_refusal(plan: &[u8], body: &[u8]) -> Provisioned
     requires { ⌜ (soundOf (now plan) ≡ true) × (length (now body) ≡ SET-NUMBER-BYTES) ⌝ }
     ensures { λ r. ⌜ numberOfProvisioned r ≡ firstOf (removeSetLines (planOf (now (plan .entry))) (now (body .entry))) ⌝ }
 {
-    let set = changes::set_number(body, 0);
-    if changes::is_over_room(plan, set) {
+    let set = plan::set_number(body, 0);
+    if plan::is_over_room(plan, set) {
         return Provisioned::Refused(Refusal::Range);
     }
     if !plan::is_held(plan, set) {
@@ -190,7 +190,7 @@ pub fn remove_set_known(plan: &mut [u8], body: &[u8]) -> Provisioned
     match remove_set_refusal(plan, body) {
         Provisioned::Refused(r) => Provisioned::Refused(r),
         Provisioned::Accepted => {
-            plan::clear_set(plan, changes::set_number(body, 0));
+            plan::clear_set(plan, plan::set_number(body, 0));
             Provisioned::Accepted
         }
     }

@@ -19,7 +19,7 @@ use Rattle.meaning.specs.declared.Provisioned.the-variants.{Accepted, Refused a
 use Rattle.meaning.specs.declared.Counted.{Counted}
 use Rattle.meaning.specs.declared.Counted.the-variants.{Rules, Refused as NotCounted}
 use Rattle.meaning.specs.declared.Refusal.{Refusal}
-use Rattle.meaning.specs.declared.Refusal.the-variants.{Cut, Kind, Plan, Room, Range, Groups, Taken, Absent, Misfit, Full, InUse, Short, Long}
+use Rattle.meaning.proofs.Telling.{refusal-number}
 use Rattle.text.specs.Writes.{Writes, digitsOr, listedOf, ListedIn, answerIn, NumberIn, headText}
 use Rattle.text.proofs.Lines.{decimal-one, number-short, stored, named}
 use Rattle.text.proofs.DigitTexts.{digits-short, digits-is, prefix-is}
@@ -33,22 +33,6 @@ no-is n m e = rw e
 pub end-is : (n : ℕ) → (101 ∷ 110 ∷ 100 ∷ 32 ∷ []) ++ (decimal n ++ 10 ∷ []) ≡ endLine n
 unfolding endLine
 end-is n = refl
-
--- every refusal has a number
-refusal-number : (r : Refusal) → numberOfRefusal r ≢ 0
-refusal-number Cut e = omega (arith, e)
-refusal-number Kind e = omega (arith, e)
-refusal-number Plan e = omega (arith, e)
-refusal-number Room e = omega (arith, e)
-refusal-number Range e = omega (arith, e)
-refusal-number Groups e = omega (arith, e)
-refusal-number Taken e = omega (arith, e)
-refusal-number Absent e = omega (arith, e)
-refusal-number Misfit e = omega (arith, e)
-refusal-number Full e = omega (arith, e)
-refusal-number InUse e = omega (arith, e)
-refusal-number Short e = omega (arith, e)
-refusal-number Long e = omega (arith, e)
 
 pub accepted-is : {p : Provisioned} → p ≡ Accepted → 111 ∷ 107 ∷ 10 ∷ [] ≡ acceptedLine (numberOfProvisioned p)
 unfolding okLine

@@ -7,11 +7,12 @@ use native.Mathlib.Nat.{not-suc-le-zero, zero-add, pow-suc}
 use native.Mathlib.Omega.{arith}
 use lib.Dec.{ltb}
 use lib.ListN.{length, take, drop, getD, set, length-append, length-drop}
-use lib.Seq.{take-at, drop-at, set-at, drop-cons, drop-drop, take-all, drop-length, append-snoc, sets, sets-eq}
+use lib.Seq.{take-at, drop-at, set-at, drop-cons, drop-drop, drop-length, append-snoc, sets, sets-eq}
 use borrow.Author.Tests.{lt-ltb, le-ltb, ltb-true, ltb-false}
 use borrow.Rule.Slice.PartMut.{putMid, midOf, post-is}
 use Rattle.meaning.specs.Basics.{writtenOver}
 use Rattle.meaning.specs.Records.{decimalFrom, decimal}
+use Rattle.buffer.proofs.ListLaws.{rest-is}
 use Rattle.text.specs.Writes.{Writes}
 
 -- DECIMAL NUMBERS
@@ -113,11 +114,11 @@ module _ {xs out after : List ℕ} {n : ℕ} (w : Writes xs out after n) where
   front-is = rw (w .buffer-is, take-at xs (drop (length xs) out) n (sym (w .count-is)))
 
   -- what a writer is lent that goes on behind it
-  pub rest-is : midOf n (length after - n) after ≡ drop n out
-  rest-is = take-all (length after - n) (drop n after) (rw length-drop (omega arith)) ∙ behind-is
+  pub lent-behind : midOf n (length after - n) after ≡ drop n out
+  lent-behind = rest-is n after ∙ behind-is
 
   pub room-behind : (k : ℕ) → k + n ≤ length out → k ≤ length (midOf n (length after - n) after)
-  room-behind k h = rw (rest-is, length-drop) (omega arith)
+  room-behind k h = rw (lent-behind, length-drop) (omega arith)
 
   -- one byte
   pub byte-behind : (b : ℕ) → n < length out → Writes (xs ++ b ∷ []) out (set after n b) (n + 1)
@@ -133,9 +134,9 @@ module _ {xs out after : List ℕ} {n : ℕ} (w : Writes xs out after n) where
   text-behind {ys} {last} {m} v =
       let z : drop (length after - n) (drop n after) ≡ [] = post-is n (length after) after (omega (arith, kept-long, w .inside)) ∙ drop-length after in
       let l : length (xs ++ ys) ≡ n + m = length-append xs ys ∙ omega (arith, w .count-is, v .count-is) in
-      let s : last ≡ ys ++ drop m (drop n out) = v .buffer-is ∙ rw (rest-is, v .count-is) in
+      let s : last ≡ ys ++ drop m (drop n out) = v .buffer-is ∙ rw (lent-behind, v .count-is) in
       record {
         count-is = sym l;
         buffer-is = rw (front-is, z, append-nil, s, drop-drop, l, append-assoc);
-        inside = omega (arith, ap length rest-is, length-drop n out, v .inside, w .inside);
+        inside = omega (arith, ap length lent-behind, length-drop n out, v .inside, w .inside);
       }

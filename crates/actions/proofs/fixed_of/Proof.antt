@@ -1,6 +1,6 @@
 -- The tests are the definition's.
 use borrow.Author.Needs.{needs}
-use Rattle.ranges.proofs.Tables.{tests}
+use Rattle.actions.proofs.Tables.{tests}
 use Rattle.actions.proofs.fixed_of.Statement.{statement}
 use Rattle.actions.proofs.fixed_of.Tie as tie
 

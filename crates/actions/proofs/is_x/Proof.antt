@@ -1,5 +1,5 @@
 -- The two tests are the definition's.
-use Rattle.ranges.proofs.Tables.{tests}
+use Rattle.actions.proofs.Tables.{tests}
 use Rattle.actions.proofs.is_x.Statement.{statement}
 use Rattle.actions.proofs.is_x.Tie as tie
 

@@ -2,7 +2,7 @@
 use mathlib.Core.Path.{ap, _∙_}
 use Rattle.meaning.specs.Rules.{chosenPlace}
 use Rattle.plan.proofs.ReadLaws.{numbers}
-use Rattle.choice.proofs.Chosen.{area-is, rules-are, order-is}
+use Rattle.plan.proofs.PlacedRules.{area-is, rules-are, order-is}
 use borrow.Author.Needs.{needs}
 use Rattle.choice.proofs.choose.Statement.{statement}
 use Rattle.choice.proofs.choose.Tie as tie

@@ -6,10 +6,10 @@ use Rattle.meaning.specs.Sizes.{RULE-WIDTH}
 use Rattle.meaning.proofs.Tests.{all-false, true-is}
 use Rattle.buffer.specs.Slots.{slots}
 use Rattle.buffer.proofs.SlotLaws.{wide-slots}
-use Rattle.ranges.proofs.Lists.{rest-is}
+use Rattle.buffer.proofs.ListLaws.{rest-is}
 use Rattle.examiner.specs.Examined.{areasTests, areasPass}
 use Rattle.examiner.proofs.RuleSlots.{prefixes-fit}
-use Rattle.examiner.proofs.Answers.{failed, passed}
+use Rattle.meaning.proofs.Telling.{failed, passed}
 use borrow.Author.Needs.{needs}
 use Rattle.examiner.proofs.areas_pass.Statement.{statement}
 use Rattle.examiner.proofs.areas_pass.Tie as tie
@@ -68,7 +68,7 @@ returns-4 c =
     let a = d .before .before .before .before .before .before .before .args in
     let all-passed = d .before .before in
     c .all-zero .ensures
-    ∙ rw (rest-is (a .rules .now) (RULE-WIDTH * a .count))
+    ∙ rw (rest-is (RULE-WIDTH * a .count) (a .rules .now))
     (sym (rw (
       passed (all-passed .before .before .slots-pass .ensures) (all-passed .before .if1 .left),
       passed (all-passed .rules-pass .ensures) (d .before .if2 .left),

@@ -5,7 +5,7 @@ use borrow.Author.Tests.{le-leb, lt-leb}
 use Rattle.meaning.specs.Sizes.{SETS-AT}
 use Rattle.meaning.proofs.Tests.{all-false}
 use Rattle.examiner.specs.Examined.{headerTests, headerPasses}
-use Rattle.examiner.proofs.Answers.{failed, passed}
+use Rattle.meaning.proofs.Telling.{failed, passed}
 use borrow.Author.Needs.{needs}
 use Rattle.examiner.proofs.header_passes.Statement.{statement}
 use Rattle.examiner.proofs.header_passes.Tie as tie

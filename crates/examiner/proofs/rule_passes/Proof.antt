@@ -6,7 +6,7 @@ use Rattle.meaning.proofs.Tests.{all-false, true-is}
 use Rattle.filter.specs.Slots.{ruleOf}
 use Rattle.filter.proofs.FilterLaws.{range-bytes}
 use Rattle.examiner.specs.Examined.{ruleTests, ruleTest}
-use Rattle.examiner.proofs.Answers.{failed, passed}
+use Rattle.meaning.proofs.Telling.{failed, passed}
 use borrow.Author.Needs.{needs}
 use Rattle.examiner.proofs.rule_passes.Statement.{statement}
 use Rattle.examiner.proofs.rule_passes.Tie as tie

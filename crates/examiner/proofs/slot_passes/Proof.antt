@@ -4,7 +4,7 @@ use mathlib.Core.Bool.{and-true}
 use Rattle.meaning.proofs.Tests.{all-false}
 use Rattle.examiner.specs.Examined.{heldTests}
 use Rattle.examiner.proofs.SetSlots.{empty-slot, held-slot, held-one, held-many}
-use Rattle.examiner.proofs.Answers.{failed, passed}
+use Rattle.meaning.proofs.Telling.{failed, passed}
 use borrow.Author.Needs.{needs}
 use Rattle.examiner.proofs.slot_passes.Statement.{statement}
 use Rattle.examiner.proofs.slot_passes.Tie as tie

@@ -4,7 +4,7 @@ use native.Mathlib.Omega.{arith}
 use Rattle.meaning.proofs.Tests.{true-is}
 use Rattle.examiner.proofs.Headers.{header-parts}
 use Rattle.examiner.proofs.Bridge.{header-fails, numbers-read, areas-decide}
-use Rattle.examiner.proofs.Answers.{failed, passed}
+use Rattle.meaning.proofs.Telling.{failed, passed}
 use borrow.Author.Needs.{needs}
 use Rattle.examiner.proofs.sound.Statement.{statement}
 use Rattle.examiner.proofs.sound.Tie as tie

@@ -7,7 +7,7 @@ use borrow.Author.Needs.{needs}
 use borrow.Author.Tests.{not-true, not-false}
 use Rattle.meaning.specs.Actions.{casOf}
 use Rattle.meaning.specs.Groups.{eachValueOnce}
-use Rattle.ranges.proofs.Lists.{rest-is}
+use Rattle.buffer.proofs.ListLaws.{rest-is}
 use Rattle.actions.proofs.Reading.{stop, step}
 use Rattle.groups.proofs.each_value_once.Statement.{statement}
 use Rattle.groups.proofs.each_value_once.Tie as tie
@@ -49,7 +49,7 @@ returns-2 c =
     let l = c .before .before .before .before .before .before in
     let read = c .before .before .before .before .before .action-at .ensures in
     let s = step eachValueOnce read (c .before .before .before .if1 .left) (l .loop .inv .1) in
-    let e = rw (rest-is (l .before .before .args .cas .now) (l .loop .i + 2)) at (c .before .not-set-again .ensures) in
+    let e = rw (rest-is (l .loop .i + 2) (l .before .before .args .cas .now)) at (c .before .not-set-again .ensures) in
     rw (sym e ∙ not-true _ (c .if2 .taken)) at (s .1)
 
 loop-less : tie.Need-loop-less Inv-loop μ-loop
@@ -60,7 +60,7 @@ loop-again c =
     let l = c .before .before .before .before .before .before in
     let read = c .before .before .before .before .before .action-at .ensures in
     let s = step eachValueOnce read (c .before .before .before .if1 .left) (l .loop .inv .1) in
-    let e = rw (rest-is (l .before .before .args .cas .now) (l .loop .i + 2)) at (c .before .not-set-again .ensures) in
+    let e = rw (rest-is (l .loop .i + 2) (l .before .before .args .cas .now)) at (c .before .not-set-again .ensures) in
     (s .0, rw (sym e ∙ not-false _ (c .if2 .left)) at (s .1))
 
 pub each-value-once-spec : {M : Type 1} → statement M

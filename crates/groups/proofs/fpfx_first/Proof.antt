@@ -4,7 +4,7 @@ use mathlib.Core.Path.{sym, ap, _∙_}
 use mathlib.Core.Bool.{not}
 use borrow.Author.Needs.{needs}
 use Rattle.meaning.specs.Groups.{fpfxFirst}
-use Rattle.ranges.proofs.Lists.{rest-is}
+use Rattle.buffer.proofs.ListLaws.{rest-is}
 use Rattle.groups.proofs.fpfx_first.Statement.{statement}
 use Rattle.groups.proofs.fpfx_first.Tie as tie
 
@@ -30,7 +30,7 @@ has-code-requires c κs = search needs
 returns-2 : tie.Need-returns-2
 unfolding fpfxFirst
 returns-2 c =
-    let e = rw (rest-is (c .before .before .before .before .before .before .args .cas .now) 2) at (c .has-code .ensures) in
+    let e = rw (rest-is 2 (c .before .before .before .before .before .before .args .cas .now)) at (c .has-code .ensures) in
     ap not e ∙ sym (ap fpfxFirst (c .before .before .before .before .action-at .ensures .goes (c .before .before .if1 .left)))
 
 pub fpfx-first-spec : {M : Type 1} → statement M

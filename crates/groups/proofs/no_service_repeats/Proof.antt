@@ -8,7 +8,7 @@ use borrow.Author.Needs.{needs}
 use Rattle.meaning.specs.Basics.{contains}
 use Rattle.meaning.specs.Actions.{codesOf}
 use Rattle.meaning.specs.Groups.{noServiceRepeats}
-use Rattle.ranges.proofs.Lists.{rest-is}
+use Rattle.buffer.proofs.ListLaws.{rest-is}
 use Rattle.actions.proofs.Reading.{stop, step}
 use Rattle.groups.proofs.no_service_repeats.Statement.{statement}
 use Rattle.groups.proofs.no_service_repeats.Tie as tie
@@ -50,7 +50,7 @@ returns-2 c =
     let l = c .before .before .before .before .before in
     let read = c .before .before .before .before .code-at in
     let sas = l .before .before .args .sas .now in
-    let e = rw (rest-is sas (l .loop .i + 1)) at (c .before .contains .ensures) in
+    let e = rw (rest-is (l .loop .i + 1) sas) at (c .before .contains .ensures) in
     let again : contains (read .result) (codesOf (drop (l .loop .i + 1) sas)) ≡ true = sym e ∙ c .if2 .taken in
     let s = step noServiceRepeats (read .ensures) (c .before .before .before .if1 .left) (l .loop .inv .1) in
     rw again at (s .1)
@@ -63,7 +63,7 @@ loop-again c =
     let l = c .before .before .before .before .before in
     let read = c .before .before .before .before .code-at in
     let sas = l .before .before .args .sas .now in
-    let e = rw (rest-is sas (l .loop .i + 1)) at (c .before .contains .ensures) in
+    let e = rw (rest-is (l .loop .i + 1) sas) at (c .before .contains .ensures) in
     let once : contains (read .result) (codesOf (drop (l .loop .i + 1) sas)) ≡ false = sym e ∙ c .if2 .left in
     let s = step noServiceRepeats (read .ensures) (c .before .before .before .if1 .left) (l .loop .inv .1) in
     (s .0, rw once at (s .1))

@@ -6,7 +6,7 @@ use lib.ListN.{length, drop}
 use borrow.Author.Needs.{needs}
 use Rattle.meaning.specs.Actions.{casOf}
 use Rattle.meaning.specs.Groups.{onlyCcdefAfterX}
-use Rattle.ranges.proofs.Lists.{rest-is}
+use Rattle.buffer.proofs.ListLaws.{rest-is}
 use Rattle.actions.proofs.Reading.{stop, step}
 use Rattle.groups.proofs.only_ccdef_after_x.Statement.{statement}
 use Rattle.groups.proofs.only_ccdef_after_x.Tie as tie
@@ -51,7 +51,7 @@ returns-2 c =
     let l = c .before .before .before .before .before .before .before in
     let read = c .before .before .before .before .before .before .action-at .ensures in
     let s = step onlyCcdefAfterX read (c .before .before .before .before .if1 .left) (l .loop .inv .1) in
-    let e = rw (rest-is (l .before .before .args .cas .now) (l .loop .i + 2)) at (c .only-ccdef .ensures) in
+    let e = rw (rest-is (l .loop .i + 2) (l .before .before .args .cas .now)) at (c .only-ccdef .ensures) in
     e ∙ (rw (sym (c .before .before .before .is-x .ensures) ∙ c .before .before .if2 .taken) at (s .1))
 
 loop-less : tie.Need-loop-less Inv-loop μ-loop

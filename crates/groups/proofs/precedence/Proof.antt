@@ -6,7 +6,7 @@ use mathlib.Core.Logic.{_≢_}
 use lib.ListN.{List·getD-eq-default}
 use borrow.Author.Needs.{needs}
 use Rattle.meaning.specs.Groups.{precedence}
-use Rattle.ranges.proofs.Tables.{arm}
+use Rattle.actions.proofs.Tables.{arm}
 use Rattle.groups.proofs.precedence.Statement.{statement}
 use Rattle.groups.proofs.precedence.Tie as tie
 

@@ -3,7 +3,7 @@ use native.Mathlib.Omega.{arith}
 use mathlib.Core.Path.{sym, ap, _∙_}
 use borrow.Author.Needs.{needs}
 use Rattle.meaning.specs.Groups.{precedenceNeverRises}
-use Rattle.ranges.proofs.Lists.{rest-is}
+use Rattle.buffer.proofs.ListLaws.{rest-is}
 use Rattle.groups.proofs.precedence_never_rises.Statement.{statement}
 use Rattle.groups.proofs.precedence_never_rises.Tie as tie
 
@@ -30,7 +30,7 @@ never-rises-from-requires c κs = search needs
 
 returns-2 : tie.Need-returns-2
 returns-2 c =
-    let e = rw (c .before .before .precedence .ensures, rest-is (c .before .before .before .before .before .before .args .sas .now) 1) at (c .never-rises-from .ensures) in
+    let e = rw (c .before .before .precedence .ensures, rest-is 1 (c .before .before .before .before .before .before .args .sas .now)) at (c .never-rises-from .ensures) in
     e ∙ sym (ap precedenceNeverRises (c .before .before .before .before .code-at .ensures .goes (c .before .before .before .if1 .left)))
 
 pub precedence-never-rises-spec : {M : Type 1} → statement M

@@ -4,8 +4,7 @@ use mathlib.Core.Path.{_≡_}
 use native.Mathlib.Omega.{arith}
 use lib.ListN.{List·getD-eq-default}
 use borrow.Author.Needs.{needs}
-use Rattle.meaning.specs.Calls.{removeRule, REMOVE-RULE}
-use Rattle.meaning.specs.Records.{operationOf}
+use Rattle.meaning.specs.Calls.{removeRule, REMOVE-RULE, operationOf}
 use Rattle.history.proofs.carry_out.Statement.{statement}
 use Rattle.history.proofs.carry_out.Tie as tie
 

@@ -5,37 +5,48 @@ use Prim.Native.Nat.{ℕ}
 use native.Mathlib.Omega.{arith}
 use lib.ListN.{getD}
 use borrow.Author.Needs.{needs}
+use borrow.Author.Tests.{leb-true, leb-false}
 use Rattle.meaning.specs.Basics.{isSome, isZero}
+use Rattle.meaning.proofs.Telling.{told}
+use Rattle.plan.specs.Layout.{setRoom, planOf}
 use Rattle.plan.proofs.ReadLaws.{numbers, held-over, held-byte}
 use Rattle.plan.proofs.is_held.Statement.{statement}
 use Rattle.plan.proofs.is_held.Tie as tie
 
-set-room-requires : tie.Need-set-room-requires
-set-room-requires c κs = numbers (c .before .args .memory .now) (c .before .pre) .header
-
-cast-if1 : tie.Need-cast-if1
-cast-if1 c = search needs
+is-over-room-requires : tie.Need-is-over-room-requires
+is-over-room-requires c κs = numbers (c .before .args .memory .now) (c .before .pre) .header
 
 returns : tie.Need-returns
+unfolding planOf
 returns c =
-    let g = c .before .before .before .before in
-    sym (ap isSome (held-over (g .args .memory .now) (g .args .set .0) (omega arith)))
+    let g = c .before .before .before in
+    let m = g .args .memory .now in
+    let n = g .args .set .0 in
+    sym (ap isSome (held-over m n (leb-true (setRoom m) n (told (c .before .is-over-room .ensures) (c .if1 .taken)))))
 
 set-start-requires : tie.Need-set-start-requires
 set-start-requires c κs = search needs
 
 shared-slice-read-result : tie.Need-shared-slice-read-result
+unfolding planOf
 shared-slice-read-result c =
-    let g = c .before .before .before .before .before .before in
-    omega (arith, numbers (g .args .memory .now) (g .pre))
+    let over = c .before .before .before in
+    let g = over .before .before in
+    let m = g .args .memory .now in
+    let n = g .args .set .0 in
+    omega (arith, numbers m (g .pre), leb-false (setRoom m) n (told (over .is-over-room .ensures) (c .before .before .if1 .left)))
 
 returns-2 : tie.Need-returns-2
+unfolding planOf
 returns-2 c =
-    let g = c .before .before .before .before .before .before in
-    ap (λ (at : ℕ). not (isZero (getD (g .args .memory .now) at 0))) (c .before .set-start .ensures)
-    ∙ sym (held-byte (g .args .memory .now) (g .args .set .0) (omega arith))
+    let over = c .before .before .before in
+    let g = over .before .before in
+    let m = g .args .memory .now in
+    let n = g .args .set .0 in
+    ap (λ (at : ℕ). not (isZero (getD m at 0))) (c .before .set-start .ensures)
+    ∙ sym (held-byte m n (leb-false (setRoom m) n (told (over .is-over-room .ensures) (c .before .before .if1 .left))))
 
 pub is-held-spec : {M : Type 1} → statement M
 is-held-spec =
     tie.close
-    (tie.spec set-room-requires cast-if1 returns set-start-requires shared-slice-read-result returns-2)
+    (tie.spec is-over-room-requires returns set-start-requires shared-slice-read-result returns-2)

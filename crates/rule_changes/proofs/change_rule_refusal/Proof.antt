@@ -17,7 +17,8 @@ use Rattle.filter.specs.Slots.{FilterBytes}
 use Rattle.filter.proofs.FilterLaws.{range-bytes}
 use Rattle.plan.specs.Layout.{planOf}
 use Rattle.plan.proofs.ReadLaws.{numbers, rule-count-is}
-use Rattle.rule_changes.proofs.RuleLines.{range-twice, changing-room, changing-range, changing-unknown, changing-absent, changing-misfit, changing, room-said, held-said, content-said, code-bytes, failed, passed, said}
+use Rattle.rule_changes.proofs.RuleLines.{range-twice, changing-room, changing-range, changing-unknown, changing-absent, changing-misfit, changing, room-told, held-told, content-told, code-bytes}
+use Rattle.meaning.proofs.Telling.{failed, passed}
 use Rattle.rule_changes.proofs.change_rule_refusal.Statement.{statement}
 use Rattle.rule_changes.proofs.change_rule_refusal.Tie as tie
 
@@ -32,7 +33,7 @@ is-over-room-requires c κs =
 returns : tie.Need-returns
 returns c =
     let b = c .before .before .before .before .before in
-    let o = room-said (planOf (b .args .plan .now)) (b .args .body .now) _ (c .before .before .set-number .ensures) _ true (c .before .is-over-room .ensures) (c .if1 .taken) in
+    let o = room-told (planOf (b .args .plan .now)) (b .args .body .now) _ (c .before .before .set-number .ensures) _ true (c .before .is-over-room .ensures) (c .if1 .taken) in
     changing-room (planOf (b .args .plan .now)) (b .args .body .now) o
 
 sub-filter-in-range : tie.Need-sub-filter-in-range
@@ -50,7 +51,7 @@ filter-in-range-requires c κs = search needs
 returns-2 : tie.Need-returns-2
 returns-2 c =
     let b = c .before .before .before .before .before .before .before .before in
-    let o = room-said (planOf (b .args .plan .now)) (b .args .body .now) _ (c .before .before .before .before .before .set-number .ensures) _ false (c .before .before .before .before .is-over-room .ensures) (c .before .before .before .if1 .left) in
+    let o = room-told (planOf (b .args .plan .now)) (b .args .body .now) _ (c .before .before .before .before .before .set-number .ensures) _ false (c .before .before .before .before .is-over-room .ensures) (c .before .before .before .if1 .left) in
     let e : filterInRange (codeGiven (b .args .body .now)) ≡ false = failed (c .before .filter-in-range .ensures ∙ range-twice (b .args .body .now)) (c .if2 .taken) in
     changing-range (planOf (b .args .plan .now)) (b .args .body .now) o e
 
@@ -72,7 +73,7 @@ holds-filter-requires c κs =
 returns-3 : tie.Need-returns-3
 returns-3 c =
     let b = c .before .before .before .before .before .before .before .before .before .before .before in
-    let o = room-said (planOf (b .args .plan .now)) (b .args .body .now) _ (c .before .before .before .before .before .before .before .before .set-number .ensures) _ false (c .before .before .before .before .before .before .before .is-over-room .ensures) (c .before .before .before .before .before .before .if1 .left) in
+    let o = room-told (planOf (b .args .plan .now)) (b .args .body .now) _ (c .before .before .before .before .before .before .before .before .set-number .ensures) _ false (c .before .before .before .before .before .before .before .is-over-room .ensures) (c .before .before .before .before .before .before .if1 .left) in
     let e : filterInRange (codeGiven (b .args .body .now)) ≡ true = passed (c .before .before .before .before .filter-in-range .ensures ∙ range-twice (b .args .body .now)) (c .before .before .before .if2 .left) in
     let h : holdsFilter (planOf (b .args .plan .now)) (codeGiven (b .args .body .now)) ≡ false = failed (c .before .holds-filter .ensures) (c .if3 .taken) in
     changing-unknown (planOf (b .args .plan .now)) (b .args .body .now) o e h
@@ -83,10 +84,10 @@ is-held-requires c κs = search needs
 returns-4 : tie.Need-returns-4
 returns-4 c =
     let b = c .before .before .before .before .before .before .before .before .before .before .before .before .before in
-    let o = room-said (planOf (b .args .plan .now)) (b .args .body .now) _ (c .before .before .before .before .before .before .before .before .before .before .set-number .ensures) _ false (c .before .before .before .before .before .before .before .before .before .is-over-room .ensures) (c .before .before .before .before .before .before .before .before .if1 .left) in
+    let o = room-told (planOf (b .args .plan .now)) (b .args .body .now) _ (c .before .before .before .before .before .before .before .before .before .before .set-number .ensures) _ false (c .before .before .before .before .before .before .before .before .before .is-over-room .ensures) (c .before .before .before .before .before .before .before .before .if1 .left) in
     let e : filterInRange (codeGiven (b .args .body .now)) ≡ true = passed (c .before .before .before .before .before .before .filter-in-range .ensures ∙ range-twice (b .args .body .now)) (c .before .before .before .before .before .if2 .left) in
     let h : holdsFilter (planOf (b .args .plan .now)) (codeGiven (b .args .body .now)) ≡ true = passed (c .before .before .before .holds-filter .ensures) (c .before .before .if3 .left) in
-    let i = held-said (planOf (b .args .plan .now)) (b .args .body .now) _ (c .before .before .before .before .before .before .before .before .before .before .set-number .ensures) _ false (c .before .is-held .ensures) (not-true _ (c .if4 .taken)) in
+    let i = held-told (planOf (b .args .plan .now)) (b .args .body .now) _ (c .before .before .before .before .before .before .before .before .before .before .set-number .ensures) _ false (c .before .is-held .ensures) (not-true _ (c .if4 .taken)) in
     changing-absent (planOf (b .args .plan .now)) (b .args .body .now) o e h i
 
 sub-fits : tie.Need-sub-fits
@@ -112,19 +113,19 @@ fits-requires c κs =
 returns-5 : tie.Need-returns-5
 returns-5 c =
     let b = c .before .before .before .before .before .before .before .before .before .before .before .before .before .before .before .before .before in
-    let o = room-said (planOf (b .args .plan .now)) (b .args .body .now) _ (c .before .before .before .before .before .before .before .before .before .before .before .before .before .before .set-number .ensures) _ false (c .before .before .before .before .before .before .before .before .before .before .before .before .before .is-over-room .ensures) (c .before .before .before .before .before .before .before .before .before .before .before .before .if1 .left) in
+    let o = room-told (planOf (b .args .plan .now)) (b .args .body .now) _ (c .before .before .before .before .before .before .before .before .before .before .before .before .before .before .set-number .ensures) _ false (c .before .before .before .before .before .before .before .before .before .before .before .before .before .is-over-room .ensures) (c .before .before .before .before .before .before .before .before .before .before .before .before .if1 .left) in
     let e : filterInRange (codeGiven (b .args .body .now)) ≡ true = passed (c .before .before .before .before .before .before .before .before .before .before .filter-in-range .ensures ∙ range-twice (b .args .body .now)) (c .before .before .before .before .before .before .before .before .before .if2 .left) in
     let h : holdsFilter (planOf (b .args .plan .now)) (codeGiven (b .args .body .now)) ≡ true = passed (c .before .before .before .before .before .before .before .holds-filter .ensures) (c .before .before .before .before .before .before .if3 .left) in
-    let is = content-said (planOf (b .args .plan .now)) (b .args .body .now) _ _ (c .before .before .before .before .before .before .before .before .before .before .before .before .before .before .set-number .ensures) (c .before .before .content .ensures .is) in
+    let is = content-told (planOf (b .args .plan .now)) (b .args .body .now) _ _ (c .before .before .before .before .before .before .before .before .before .before .before .before .before .before .set-number .ensures) (c .before .before .content .ensures .is) in
     changing-misfit (planOf (b .args .plan .now)) (b .args .body .now) o e _ is h (failed (c .before .fits2 .ensures) (c .if5 .taken))
 
 returns-6 : tie.Need-returns-6
 returns-6 c =
     let b = c .before .before .before .before .before .before .before .before .before .before .before .before .before .before .before .before .before in
-    let o = room-said (planOf (b .args .plan .now)) (b .args .body .now) _ (c .before .before .before .before .before .before .before .before .before .before .before .before .before .before .set-number .ensures) _ false (c .before .before .before .before .before .before .before .before .before .before .before .before .before .is-over-room .ensures) (c .before .before .before .before .before .before .before .before .before .before .before .before .if1 .left) in
+    let o = room-told (planOf (b .args .plan .now)) (b .args .body .now) _ (c .before .before .before .before .before .before .before .before .before .before .before .before .before .before .set-number .ensures) _ false (c .before .before .before .before .before .before .before .before .before .before .before .before .before .is-over-room .ensures) (c .before .before .before .before .before .before .before .before .before .before .before .before .if1 .left) in
     let e : filterInRange (codeGiven (b .args .body .now)) ≡ true = passed (c .before .before .before .before .before .before .before .before .before .before .filter-in-range .ensures ∙ range-twice (b .args .body .now)) (c .before .before .before .before .before .before .before .before .before .if2 .left) in
     let h : holdsFilter (planOf (b .args .plan .now)) (codeGiven (b .args .body .now)) ≡ true = passed (c .before .before .before .before .before .before .before .holds-filter .ensures) (c .before .before .before .before .before .before .if3 .left) in
-    let is = content-said (planOf (b .args .plan .now)) (b .args .body .now) _ _ (c .before .before .before .before .before .before .before .before .before .before .before .before .before .before .set-number .ensures) (c .before .before .content .ensures .is) in
+    let is = content-told (planOf (b .args .plan .now)) (b .args .body .now) _ _ (c .before .before .before .before .before .before .before .before .before .before .before .before .before .before .set-number .ensures) (c .before .before .content .ensures .is) in
     changing (planOf (b .args .plan .now)) (b .args .body .now) o e _ is h (passed (c .before .fits2 .ensures) (c .if5 .left))
 
 pub change-rule-refusal-spec : {M : Type 1} → statement M

@@ -2,7 +2,8 @@
 use native.Mathlib.Omega.{arith}
 use borrow.Author.Needs.{needs}
 use Rattle.plan.proofs.ReadLaws.{numbers}
-use Rattle.rule_changes.proofs.PlaceAnswers.{area-is, held-found, absent-found, held-place, absent-place}
+use Rattle.rule_changes.proofs.PlaceAnswers.{held-found, absent-found, held-place, absent-place}
+use Rattle.plan.proofs.PlacedRules.{area-is}
 use Rattle.rule_changes.proofs.place_of.Statement.{statement}
 use Rattle.rule_changes.proofs.place_of.Tie as tie
 

@@ -17,7 +17,8 @@ use Rattle.filter.specs.Slots.{FilterBytes}
 use Rattle.filter.proofs.FilterLaws.{range-bytes}
 use Rattle.plan.specs.Layout.{planOf}
 use Rattle.plan.proofs.ReadLaws.{numbers, rule-count-is}
-use Rattle.rule_changes.proofs.RuleLines.{range-twice, code-bytes, removing-range, removing-absent, removing, failed, passed, said}
+use Rattle.rule_changes.proofs.RuleLines.{range-twice, code-bytes, removing-range, removing-absent, removing}
+use Rattle.meaning.proofs.Telling.{failed, passed}
 use Rattle.rule_changes.proofs.remove_rule_refusal.Statement.{statement}
 use Rattle.rule_changes.proofs.remove_rule_refusal.Tie as tie
 

@@ -1,8 +1,7 @@
 -- Each arm is an entry of the definition's table, and its call does not look at the room.
 use mathlib.Core.Path.{refl, ap, _∙_}
 use borrow.Author.Needs.{needs}
-use Rattle.meaning.specs.Calls.{addSet, replaceSet, removeSet, addRule, changeRule, removeRule, bodyLength}
-use Rattle.meaning.specs.Records.{operationOf}
+use Rattle.meaning.specs.Calls.{addSet, replaceSet, removeSet, addRule, changeRule, removeRule, bodyLength, operationOf}
 use Rattle.run.proofs.RunLaws.{changed, last-kind}
 use Rattle.run.proofs.change.Statement.{statement}
 use Rattle.run.proofs.change.Tie as tie

@@ -3,7 +3,7 @@ use mathlib.Core.Logic.{⊎-elim}
 use native.Mathlib.Omega.{arith}
 use borrow.Author.Needs.{needs}
 use borrow.Author.Tests.{ltb-true, ltb-false}
-use Rattle.meaning.specs.Records.{operationOf}
+use Rattle.meaning.specs.Calls.{operationOf}
 use Rattle.run.proofs.RunLaws.{over-sets, over-rules, within-both, opened-over, opened-within}
 use Rattle.run.proofs.open.Statement.{statement}
 use Rattle.run.proofs.open.Tie as tie

@@ -1,7 +1,8 @@
 -- A refusal leaves the plan; an accepted change is the edit's.
 use Rattle.meaning.specs.Calls.{bodyLength, addSet}
 use Rattle.changes.proofs.PromiseLaws.{known-refused}
-use Rattle.set_changes.proofs.LineLaws.{refusal-number, answered, added-below}
+use Rattle.set_changes.proofs.LineLaws.{added-below}
+use Rattle.meaning.proofs.Telling.{refusal-number, answered}
 use Rattle.set_changes.proofs.ChangeLaws.{added}
 use borrow.Author.Needs.{needs}
 use Rattle.set_changes.proofs.add_set_known.Statement.{statement}

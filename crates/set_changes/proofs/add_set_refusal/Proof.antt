@@ -2,9 +2,9 @@
 use mathlib.Core.Path.{refl}
 use mathlib.Core.Bool.{true, false}
 use Rattle.plan.specs.Layout.{planOf}
-use Rattle.settings.proofs.Answers.{failed, passed}
+use Rattle.meaning.proofs.Telling.{failed, passed, told}
 use Rattle.plan.proofs.ReadLaws.{numbers}
-use Rattle.set_changes.proofs.LineLaws.{told, add-lines}
+use Rattle.set_changes.proofs.LineLaws.{add-lines}
 use borrow.Author.Needs.{needs}
 use Rattle.set_changes.proofs.add_set_refusal.Statement.{statement}
 use Rattle.set_changes.proofs.add_set_refusal.Tie as tie

@@ -4,7 +4,8 @@ use lib.ListN.{length}
 use Rattle.meaning.specs.Calls.{openPlan}
 use Rattle.changes.specs.Promise.{calls}
 use Rattle.changes.proofs.PromiseLaws.{refused}
-use Rattle.set_changes.proofs.LineLaws.{refusal-number, answered, opened-fits}
+use Rattle.set_changes.proofs.LineLaws.{opened-fits}
+use Rattle.meaning.proofs.Telling.{refusal-number, answered}
 use Rattle.set_changes.proofs.ChangeLaws.{opening-number, opened}
 use borrow.Author.Needs.{needs}
 use Rattle.set_changes.proofs.open_known.Statement.{statement}

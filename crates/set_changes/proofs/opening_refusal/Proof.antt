@@ -1,7 +1,7 @@
 -- Each answer is that of the first check that refuses.
 use mathlib.Core.Path.{refl}
 use mathlib.Core.Bool.{true, false}
-use Rattle.settings.proofs.Answers.{failed, passed}
+use Rattle.meaning.proofs.Telling.{failed, passed}
 use Rattle.set_changes.proofs.LineLaws.{opening-lines, lacks, suffices}
 use borrow.Author.Needs.{needs}
 use Rattle.set_changes.proofs.opening_refusal.Statement.{statement}

@@ -1,7 +1,8 @@
 -- A refusal leaves the plan; an accepted change is the edit's.
 use Rattle.meaning.specs.Calls.{bodyLength, removeSet}
 use Rattle.changes.proofs.PromiseLaws.{known-refused}
-use Rattle.set_changes.proofs.LineLaws.{refusal-number, answered, removed-below}
+use Rattle.set_changes.proofs.LineLaws.{removed-below}
+use Rattle.meaning.proofs.Telling.{refusal-number, answered}
 use Rattle.set_changes.proofs.ChangeLaws.{removed}
 use borrow.Author.Needs.{needs}
 use Rattle.set_changes.proofs.remove_set_known.Statement.{statement}

@@ -4,9 +4,9 @@ use mathlib.Core.Bool.{true, false}
 use borrow.Author.Tests.{not-true, not-false}
 use Rattle.meaning.specs.Calls.{contentGiven}
 use Rattle.plan.specs.Layout.{planOf}
-use Rattle.settings.proofs.Answers.{failed, passed}
+use Rattle.meaning.proofs.Telling.{failed, passed, told}
 use Rattle.plan.proofs.ReadLaws.{numbers}
-use Rattle.set_changes.proofs.LineLaws.{told, replace-lines}
+use Rattle.set_changes.proofs.LineLaws.{replace-lines}
 use Rattle.set_changes.proofs.FittingLaws.{fitting-plan}
 use borrow.Author.Needs.{needs}
 use Rattle.set_changes.proofs.replace_set_refusal.Statement.{statement}

@@ -1,0 +1,89 @@
+-- Where a part is out of range not all are in range; else the last decides.
+use Prim.Native.Nat.{ℕ}
+use mathlib.Core.Path.{sym, _∙_}
+use mathlib.Core.Bool.{Bool, and-true}
+use mathlib.Core.List.{List, [], _∷_}
+use lib.ListN.{getD}
+use borrow.Author.Needs.{needs}
+use borrow.Author.Tests.{not-true, not-false}
+use Rattle.meaning.specs.Settings.{isOutgoingClass}
+use Rattle.meaning.specs.Actions.{DELIMITER-B, CDIAL, caBytes, saBytes, faBytes, casInRange, codesInRange, contentInRange}
+use Rattle.meaning.proofs.Tests.{all-false}
+use Rattle.actions.proofs.content_in_range.Statement.{statement}
+use Rattle.actions.proofs.content_in_range.Tie as tie
+
+abbrev parts : List ℕ → List Bool
+parts b = isOutgoingClass (getD b 0 0) ∷ casInRange (caBytes b) ∷ codesInRange CDIAL (saBytes b) ∷ codesInRange DELIMITER-B (faBytes b) ∷ []
+
+shared-slice-read-is-outgoing-class : tie.Need-shared-slice-read-is-outgoing-class
+shared-slice-read-is-outgoing-class c = search needs
+
+is-outgoing-class-requires : tie.Need-is-outgoing-class-requires
+is-outgoing-class-requires c κs = search needs
+
+returns : tie.Need-returns
+unfolding contentInRange
+returns c =
+    let r = parts (c .before .before .before .before .args .content .now) in
+    sym (all-false 0 r (sym (c .before .is-outgoing-class .ensures) ∙ not-true _ (c .if1 .taken)))
+
+cas-of-requires : tie.Need-cas-of-requires
+cas-of-requires c κs = search needs
+
+cas-in-range-requires : tie.Need-cas-in-range-requires
+cas-in-range-requires c κs = search needs
+
+returns-2 : tie.Need-returns-2
+unfolding contentInRange
+returns-2 c =
+    let r = parts (c .before .before .before .before .before .before .before .args .content .now) in
+    sym (all-false 1 r (sym (rw (c .before .before .cas-of .ensures) at (c .before .cas-in-range .ensures)) ∙ not-true _ (c .if2 .taken)))
+
+sas-of-requires : tie.Need-sas-of-requires
+sas-of-requires c κs = search needs
+
+codes-in-range-requires : tie.Need-codes-in-range-requires
+codes-in-range-requires c κs = search needs
+
+returns-3 : tie.Need-returns-3
+unfolding contentInRange
+returns-3 c =
+    let r = parts (c .before .before .before .before .before .before .before .before .before .before .args .content .now) in
+    sym (all-false 2 r (sym (rw (c .before .before .sas-of .ensures) at (c .before .codes-in-range .ensures)) ∙ not-true _ (c .if3 .taken)))
+
+fas-of-requires : tie.Need-fas-of-requires
+fas-of-requires c κs = search needs
+
+codes-in-range-requires-2 : tie.Need-codes-in-range-requires-2
+codes-in-range-requires-2 c κs = search needs
+
+returns-4 : tie.Need-returns-4
+unfolding contentInRange
+returns-4 c =
+    let a = rw (c .before .before .before .before .before .before .before .cas-of .ensures) at (c .before .before .before .before .before .before .cas-in-range .ensures) in
+    let s = rw (c .before .before .before .before .sas-of .ensures) at (c .before .before .before .codes-in-range .ensures) in
+    let f = rw (c .before .fas-of .ensures) at (c .codes-in-range2 .ensures) in
+    rw (
+      f,
+      sym (c .before .before .before .before .before .before .before .before .before .is-outgoing-class .ensures) ∙ not-false _ (c .before .before .before .before .before .before .before .before .if1 .left),
+      sym a ∙ not-false _ (c .before .before .before .before .before .if2 .left),
+      sym s ∙ not-false _ (c .before .before .if3 .left),
+      and-true,
+    )
+
+pub content-in-range-spec : {M : Type 1} → statement M
+content-in-range-spec =
+    tie.close
+    (tie.spec
+    shared-slice-read-is-outgoing-class
+    is-outgoing-class-requires
+    returns
+    cas-of-requires
+    cas-in-range-requires
+    returns-2
+    sas-of-requires
+    codes-in-range-requires
+    returns-3
+    fas-of-requires
+    codes-in-range-requires-2
+    returns-4)
