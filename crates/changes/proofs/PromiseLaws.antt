@@ -1,6 +1,6 @@
 -- How a call meets its promise: it is refused by its first check, by the examiner, or by one of its own checks, or it leaves the image of what it made.
 use Prim.Native.Nat.{ℕ, zero, suc, _+_, _≤_, _<_}
-use mathlib.Core.Path.{_≡_, ap, ap₂, sym, subst, _∙_}
+use mathlib.Core.Path.{_≡_, ap, ap₂, sym, _∙_}
 use mathlib.Core.Logic.{_≢_}
 use mathlib.Core.Bool.{true, false, not}
 use mathlib.Core.List.{List, [], _∷_, _++_}
@@ -14,8 +14,8 @@ use Rattle.meaning.specs.Basics.{if_then_else_, isZero}
 use Rattle.meaning.specs.Refusals.{CUT, PLAN, Line, firstOf}
 use Rattle.meaning.specs.Settings.{Rooms, roomsOf, bytesNeeded}
 use Rattle.meaning.specs.Plan.{Plan, roomsIn}
-use Rattle.meaning.specs.Calls.{Operation, Call, kindOf, bodyLength, isCut, bodyOf, lacksBytes, linesOf, refusal, made, isAccepted}
-use Rattle.meaning.proofs.CallKinds.{isOpening, plan-lines}
+use Rattle.meaning.specs.Calls.{Operation, Call, kindOf, bodyLength, isCut, bodyOf, lacksBytes, linesOf, refusal, made, isAccepted, OPEN-PLAN, isCall, operationOf, callOf}
+use Rattle.meaning.proofs.CallKinds.{isOpening, plan-lines, kind-of, other-call}
 use Rattle.plan.specs.Layout.{image, planOf}
 use Rattle.plan.specs.State.{soundOf, stateOf, restOf}
 use Rattle.plan.proofs.ImageLaws.{state-some, state-none}
@@ -87,10 +87,30 @@ module _ (o : Operation) (m b : List ℕ) (size : length b ≡ bodyLength (kindO
   pub known-refused : (number : ℕ) → firstOf (linesOf o (lacksBytes (length m)) (some (planOf m)) b) ≡ number → number ≢ 0 → Provides (calls o b) m m number
   known-refused number e h = refused (calls o b) m number (number-known ∙ e) h
 
-  -- none does: the image of what it made, with the rooms as they were, and the rest
-  pub known-accepted : (q : Plan) → firstOf (linesOf o (lacksBytes (length m)) (some (planOf m)) b) ≡ 0 → made o (some (planOf m)) b ≡ some q
-      → q .rooms ≡ planOf m .rooms → Provides (calls o b) m (image q ++ restOf m) 0
-  unfolding planOf
-  known-accepted q e f r =
-      let p = accepted (calls o b) m q (number-known ∙ e) (ap₂ (made o) (state-some m s) whole-body ∙ f) in
-      subst (λ (k : ℕ). Provides (calls o b) m (image q ++ drop k m) 0) (ap (λ (x : List ℕ). bytesNeeded (roomsOf x)) r) p
+  -- none does: what it makes is there
+  pub known-made : (after : List ℕ) → firstOf (linesOf o (lacksBytes (length m)) (some (planOf m)) b) ≡ 0 → after ≡ memoryOf (made o (some (planOf m)) b) m
+      → Provides (calls o b) m after 0
+  unfolding memoryAfter
+  known-made after e f =
+      let z : numberFor (calls o b) m ≡ 0 = number-known ∙ e in
+      record { number-is = sym z; memory-is = f ∙ sym (rw (z, state-some m s, whole-body)) }
+
+-- a plan with the rooms of a memory's plan, over the front of the memory
+pub rest-behind : (m : List ℕ) (q : Plan) → q .rooms ≡ planOf m .rooms → image q ++ restOf m ≡ memoryOf (some q) m
+unfolding planOf
+rest-behind m q e = ap (λ (x : List ℕ). image q ++ drop (bytesNeeded (roomsOf x)) m) (sym e)
+
+-- BY KIND: `len` is the length that it fixes
+
+module _ (k : ℕ) (call : isCall k ≡ true) (m b : List ℕ) (len : ℕ) (len-is : len ≡ bodyLength k) where
+  fixed : bodyLength (kindOf (operationOf k)) ≡ len
+  fixed = ap bodyLength (kind-of k call) ∙ sym len-is
+
+  pub kind-cut : length b < len → Provides (callOf k b) m m CUT
+  kind-cut h = cut (operationOf k) m b (rw fixed h)
+
+  pub kind-unsound : k ≢ OPEN-PLAN → len ≤ length b → soundOf m ≡ false → Provides (callOf k b) m m PLAN
+  kind-unsound other h s = unsound (operationOf k) m b (other-call k call other) (rw fixed h) s
+
+  pub kind-longer : len ≤ length b → (after : List ℕ) (number : ℕ) → Provides (callOf k (take len b)) m after number → Provides (callOf k b) m after number
+  kind-longer h after number p = longer (operationOf k) m b (rw fixed h) after number (rw fixed p)

@@ -1,13 +1,16 @@
 // The group rules of a set's actions.
 use actions::action_at;
+use actions::cas_of;
 use actions::code_at;
 use actions::contains;
 use actions::count_x;
+use actions::fas_of;
 use actions::has_code;
 use actions::is_set;
 use actions::is_x;
 use actions::no_codes;
 use actions::no_conditioning;
+use actions::sas_of;
 use actions::value_of;
 use meaning::ca::CCDEF;
 use meaning::ca::FPFX;
@@ -25,9 +28,6 @@ use meaning::sa::CDIAL;
 use meaning::sa::CDPNNP;
 use meaning::sa::GRNLKUP;
 use meaning::sa::INPRTG;
-use actions::cas_of;
-use actions::fas_of;
-use actions::sas_of;
 ghost use mathlib.Core.Path.{_≡_};
 ghost use mathlib.Core.Bool.{_||_, not};
 ghost use lib.ListN.{length};

@@ -5,10 +5,11 @@ use mathlib.Core.List.{List, [], _∷_, _++_, append-assoc}
 use native.Mathlib.Omega.{arith}
 use lib.ListN.{length, take, drop, length-append}
 use lib.Seq.{take-at, drop-at}
-use lib.Dec.{T, eqb, eqb→eq}
+use lib.Dec.{eqb, eqb→eq}
 use borrow.Author.Tests.{le-leb}
-use Rattle.meaning.specs.Calls.{Operation, openPlan, addSet, replaceSet, removeSet, addRule, changeRule, removeRule, Call, isCall, kindOf, bodyLength, operationOf}
+use Rattle.meaning.specs.Calls.{openPlan, Call, isCall, kindOf, bodyLength}
 use Rattle.meaning.proofs.Tests.{is-true, and-left, and-right}
+use Rattle.meaning.proofs.CallKinds.{kind-back}
 use Rattle.changes.specs.Promise.{memoryAfter, Provides, calls, Chain, done, next}
 use Rattle.history.specs.Replays.{Replays, callsIn, numbersOf, memoryBehind, recordsOf, wholeBodies, RunsEvery}
 use Rattle.history.specs.Claim.{EveryReplay}
@@ -44,16 +45,6 @@ replayed m bytes numbers after written count r b cs rest first accepted =
     demand3 m after b cs rest chain
 
 -- EVERY LIST OF WHOLE CALLS IS CARRIED OUT
-
-kind-back : (o : Operation) → (operationOf (kindOf o) ≡ o) × T (isCall (kindOf o))
-unfolding operationOf isCall
-kind-back openPlan = (refl, tt)
-kind-back addSet = (refl, tt)
-kind-back replaceSet = (refl, tt)
-kind-back removeSet = (refl, tt)
-kind-back addRule = (refl, tt)
-kind-back changeRule = (refl, tt)
-kind-back removeRule = (refl, tt)
 
 pub runs-every : RunsEvery
 runs-every [] t rest = refl

@@ -2,12 +2,8 @@
 ghost use mathlib.Core.Path.{_≡_};
 ghost use Prim.Native.Nat.{_≤_};
 ghost use lib.ListN.{drop};
-ghost use Rattle.meaning.specs.Calls.{callOf};
-ghost use Rattle.meaning.specs.Answers.{numberOfProvisioned};
-ghost use Rattle.changes.specs.Promise.{Provides};
 ghost use Rattle.history.specs.Replays.{Replays};
 ghost use Rattle.history.specs.Parts.{beginsWhole};
-use meaning::Provisioned;
 use meaning::kinds;
 
 // Whether a whole record of a call begins at `at`.
@@ -25,21 +21,6 @@ fn is_whole(calls: &[u8], at: usize) -> bool
     kinds::body_length(kind) <= calls.len() - body
 }
 
-// The call of a kind.
-fn carry_out(plan: &mut [u8], kind: u8, body: &[u8]) -> Provisioned
-    ensures { λ r. ⌜ Provides (callOf kind (now (body .entry))) (now (plan .entry)) (now (plan .exit)) (numberOfProvisioned r) ⌝ }
-{
-    match kind {
-        kinds::OPEN_PLAN => provision::open(plan, body),
-        kinds::ADD_SET => provision::add_set(plan, body),
-        kinds::REPLACE_SET => provision::replace_set(plan, body),
-        kinds::REMOVE_SET => provision::remove_set(plan, body),
-        kinds::ADD_RULE => provision::add_rule(plan, body),
-        kinds::CHANGE_RULE => provision::change_rule(plan, body),
-        _ => provision::remove_rule(plan, body),
-    }
-}
-
 // Runs the calls that a list of house records holds, on one plan memory, and writes the number of each. It ends before the first byte that is no kind of a
 // call, before the first record that is cut, and where `numbers` is full.
 pub fn replay(plan: &mut [u8], calls: &[u8], numbers: &mut [u8]) -> usize
@@ -54,7 +35,7 @@ pub fn replay(plan: &mut [u8], calls: &[u8], numbers: &mut [u8]) -> usize
         let kind = calls[at];
         let body = at + 1;
         let end = body + kinds::body_length(kind);
-        numbers[done] = carry_out(plan, kind, &calls[body..end]).number();
+        numbers[done] = provision::carry_out(plan, kind, &calls[body..end]).number();
         at = end;
         done += 1;
     }

@@ -1,5 +1,5 @@
 -- The calls by their kinds: the opening, and every other call, which asks for a plan.
-use Prim.Native.Nat.{ℕ, _+_}
+use Prim.Native.Nat.{ℕ, _+_, _≤_}
 use mathlib.Core.Path.{_≡_, refl}
 use mathlib.Core.Logic.{_≢_}
 use mathlib.Core.Bool.{Bool, true, false}
@@ -10,7 +10,7 @@ use lib.Dec.{T, eqb, eqb→eq}
 use borrow.Author.Tests.{leb-true, ne-eqb}
 use Rattle.meaning.specs.Basics.{isZero}
 use Rattle.meaning.specs.Refusals.{PLAN, firstOf}
-use Rattle.meaning.specs.Calls.{Operation, openPlan, addSet, replaceSet, removeSet, addRule, changeRule, removeRule, OPEN-PLAN, REMOVE-RULE, isCall, kindOf, operationOf, linesOf}
+use Rattle.meaning.specs.Calls.{Operation, openPlan, addSet, replaceSet, removeSet, addRule, changeRule, removeRule, OPEN-PLAN, ADD-SET, REPLACE-SET, REMOVE-SET, ADD-RULE, CHANGE-RULE, REMOVE-RULE, isCall, kindOf, operationOf, linesOf}
 use Rattle.meaning.proofs.Tests.{at-below}
 
 abbrev pub isOpening : Operation → Bool
@@ -46,3 +46,8 @@ kind-of k c =
 -- every kind but the opening's is another call's
 pub other-call : (k : ℕ) → isCall k ≡ true → k ≢ OPEN-PLAN → isOpening (operationOf k) ≡ false
 other-call k c other = rw (kind-of k c) (ne-eqb k OPEN-PLAN other)
+
+-- the last kind of a call is the one that is none of the others
+pub last-kind : (k : ℕ) → isCall k ≡ true → k ≢ OPEN-PLAN → k ≢ ADD-SET → k ≢ REPLACE-SET → k ≢ REMOVE-SET → k ≢ ADD-RULE → k ≢ CHANGE-RULE → k ≡ REMOVE-RULE
+unfolding isCall
+last-kind k c n0 n1 n2 n3 n4 n5 = let least : REMOVE-RULE ≤ k = omega arith in omega (arith, leb-true k REMOVE-RULE c)

@@ -1,7 +1,5 @@
 // Answering a number over a plan: the choice of a rule, conditioning, the service actions and formatting, with every field of the answer.
 use choice::choose;
-use plan::content_at;
-use plan::prefix_at;
 use conditioning::PLACES;
 use conditioning::mark_spans;
 use formatting::join_outgoing;
@@ -13,6 +11,8 @@ use meaning::sizes::LOOKUP_AT;
 use meaning::sizes::NUMBER_BYTES;
 use meaning::sizes::OUTGOING_AT;
 use meaning::sizes::VALUE_BYTES;
+use plan::content_at;
+use plan::prefix_at;
 use services::Served;
 ghost use mathlib.Core.Path.{_≡_};
 ghost use mathlib.Core.Bool.{true};

@@ -189,7 +189,7 @@ fn call_record(plan: &mut [u8], run: Run, kind: u8, body: &[u8], output: &mut [u
     requires { ⌜ InRun (now plan) (run .opened) × (isCall kind ≡ true) × (length (now body) ≡ bodyLength kind) × (LONGEST ≤ length (now output)) ⌝ }
     ensures { λ r. ⌜ LinePromise (recordTurn (houseOf (now (plan .entry))) (run .lines) kind (now (body .entry))) (now (plan .entry)) (now (output .entry)) (now (plan .exit)) (now (output .exit)) r ⌝ }
 {
-    let answer = run::provision(plan, run.opened, kind, body);
+    let answer = run::carry_out(plan, run.opened, kind, body);
     let written = text::accepted_line(answer, output);
     line_of(
         1 + body.len(),

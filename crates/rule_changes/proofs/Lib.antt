@@ -1,3 +1,2 @@
-pub mod PlaceAnswers
-pub mod RuleLines
+pub mod Given
 pub mod RuleChanges

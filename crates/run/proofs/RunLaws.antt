@@ -1,31 +1,31 @@
 -- How opening and provisioning in a run meet their promise: a call over a plan does not look at the room; an opening within the
 -- rooms of a run has the bytes that it needs; any other lacks room in a run just as in a memory of 0 bytes.
-use Prim.Native.Nat.{ℕ, _+_, _≤_, _<_}
+use Prim.Native.Nat.{ℕ, _≤_, _<_}
 use mathlib.Core.Path.{_≡_, refl, ap, sym, _∙_}
 use mathlib.Core.Logic.{_≢_}
-use mathlib.Core.Bool.{Bool, true, false, _&&_, _||_, not}
+use mathlib.Core.Bool.{Bool, true, false, _||_, not}
 use mathlib.Core.List.{List}
 use mathlib.Core.Option.{Option, none}
 use native.Mathlib.Omega.{arith}
 use lib.ListN.{length}
 use lib.Seq.{getD-take, take-all}
-use lib.Dec.{T, ltb, eqb, lit<, eqb→eq}
-use borrow.Author.Tests.{lt-ltb, le-ltb, ltb-false, leb-true, ne-eqb, eqb-true, eqb-false}
+use lib.Dec.{T, ltb, eqb, lit<}
+use borrow.Author.Tests.{lt-ltb, le-ltb, ltb-false, ne-eqb, eqb-true, eqb-false}
 use Rattle.meaning.specs.Sizes.{ROOMS-BYTES, OPENING-BYTES, RUN-SETS, RUN-RULES, RUN-BYTES}
 use Rattle.meaning.specs.Basics.{if_then_else_, isZero, word}
 use Rattle.meaning.specs.Refusals.{PLAN, firstOf}
 use Rattle.meaning.specs.Settings.{roomsOf, bytesNeeded}
 use Rattle.meaning.specs.Plan.{Plan}
-use Rattle.meaning.specs.Calls.{Operation, openPlan, addSet, replaceSet, removeSet, addRule, changeRule, removeRule, Call, OPEN-PLAN, ADD-SET, REPLACE-SET, REMOVE-SET, ADD-RULE, CHANGE-RULE, REMOVE-RULE, isCall, kindOf, bodyLength, bodyOf, openedRooms, openingLines, lacksBytes, linesOf, refusal, made, isAccepted, after, operationOf, callOf}
+use Rattle.meaning.specs.Calls.{Operation, openPlan, addSet, replaceSet, removeSet, addRule, changeRule, removeRule, Call, OPEN-PLAN, isCall, bodyLength, bodyOf, openedRooms, openingLines, lacksBytes, linesOf, refusal, made, isAccepted, after, operationOf, callOf}
 use Rattle.meaning.specs.Records.{lacksProgramRoom}
-use Rattle.meaning.proofs.Tests.{true-is, is-false, false-is, and-left, and-right, or-left-false, or-right-false, or-other, passed-at, at-below}
+use Rattle.meaning.proofs.Tests.{true-is, is-false, false-is, or-left-false, or-right-false, passed-at}
 use Rattle.meaning.proofs.Soundness.{accepted-passed}
 use Rattle.plan.specs.Layout.{planOf}
 use Rattle.plan.specs.State.{soundOf, stateOf}
 use Rattle.plan.proofs.ImageLaws.{sound-memory, state-some, state-none}
 use Rattle.changes.specs.Promise.{memoryOf, memoryAfter, Provides, calls}
-use Rattle.changes.proofs.PromiseLaws.{unsound}
-use Rattle.meaning.proofs.CallKinds.{isOpening}
+use Rattle.changes.proofs.PromiseLaws.{kind-unsound}
+use Rattle.meaning.proofs.CallKinds.{isOpening, other-call}
 use Rattle.changes.proofs.Chains.{after-call}
 use Rattle.run.specs.Runs.{RunProvides}
 
@@ -126,33 +126,18 @@ no-room rooms = lt-ltb 0 (bytesNeeded (roomsOf rooms)) (omega arith)
 
 -- CALLS OVER A PLAN
 
-pub changed : (o : Operation) (m b left : List ℕ) (n : ℕ) → isOpening o ≡ false → Provides (calls o b) m left n → RunProvides (calls o b) m left n
+changed : (o : Operation) (m b left : List ℕ) (n : ℕ) → isOpening o ≡ false → Provides (calls o b) m left n → RunProvides (calls o b) m left n
 changed o m b left n e p =
     provided (calls o b) m left n (same-number (calls o b) (lacksBytes (length m)) lacksProgramRoom (stateOf m) (not-both e)) p
 
 -- every kind of a call but the opening's is such a call
-abbrev isChange : ℕ → Bool
-isChange k = not (isOpening (operationOf k)) && eqb (kindOf (operationOf k)) k
+module _ (k : ℕ) (m b : List ℕ) (call : isCall k ≡ true) (other : k ≢ OPEN-PLAN) where
+  pub changed-kind : (left : List ℕ) (n : ℕ) → Provides (callOf k b) m left n → RunProvides (callOf k b) m left n
+  changed-kind left n p = changed (operationOf k) m b left n (other-call k call other) p
 
-change-kinds : (k : ℕ) → k ≢ OPEN-PLAN → isCall k ≡ true → T (isChange k)
-unfolding operationOf isCall
-change-kinds k other c =
-    or-other (isZero k) (isChange k) (at-below (λ (j : ℕ). isZero j || isChange j) (REMOVE-RULE + 1) tt k (omega (arith, leb-true k REMOVE-RULE c)))
-    (false-is (isZero k) (ne-eqb k OPEN-PLAN other))
-
--- the kind that is none of the others
-pub last-kind : (k : ℕ) → k ≢ OPEN-PLAN → isCall k ≡ true → k ≢ ADD-SET → k ≢ REPLACE-SET → k ≢ REMOVE-SET → k ≢ ADD-RULE → k ≢ CHANGE-RULE → k ≡ REMOVE-RULE
-unfolding isCall
-last-kind k n0 c n1 n2 n3 n4 n5 = let least : REMOVE-RULE ≤ k = omega arith in omega (arith, leb-true k REMOVE-RULE c)
-
--- over no plan each of them is refused
-pub unopened : (k : ℕ) (m b : List ℕ) → k ≢ OPEN-PLAN → isCall k ≡ true → length b ≡ bodyLength k → soundOf m ≡ false → RunProvides (callOf k b) m m PLAN
-unopened k m b other c size s =
-    let o : Operation = operationOf k in
-    let t = change-kinds k other c in
-    let e : isOpening o ≡ false = is-false (isOpening o) (and-left (not (isOpening o)) (eqb (kindOf o) k) t) in
-    let kind : kindOf o ≡ k = eqb→eq (kindOf o) k (and-right (not (isOpening o)) (eqb (kindOf o) k) t) in
-    changed o m b m PLAN e (unsound o m b e (rw (kind, size) (omega arith)) s)
+  -- over no plan each of them is refused
+  pub unopened : length b ≡ bodyLength k → soundOf m ≡ false → RunProvides (callOf k b) m m PLAN
+  unopened size s = changed-kind m PLAN (kind-unsound k call m b (bodyLength k) refl other (omega arith) s)
 
 -- OPENING: `sets` and `rules` are the rooms that the body asks for
 

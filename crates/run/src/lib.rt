@@ -2,12 +2,10 @@
 ghost use mathlib.Core.Path.{_≡_};
 ghost use mathlib.Core.Bool.{true};
 ghost use Prim.Native.Nat.{_≤_};
-ghost use mathlib.Core.Logic.{_≢_};
 ghost use lib.ListN.{length};
 ghost use Rattle.meaning.specs.Sizes.{OPENING-BYTES, RUN-BYTES};
 ghost use Rattle.meaning.specs.Calls.{OPEN-PLAN, isCall, bodyLength, callOf};
 ghost use Rattle.meaning.specs.Answers.{numberOfProvisioned};
-ghost use Rattle.plan.specs.State.{soundOf};
 ghost use Rattle.run.specs.Runs.{InRun, RunProvides};
 use meaning::Provisioned;
 use meaning::Refusal;
@@ -27,23 +25,8 @@ fn open(plan: &mut [u8], body: &[u8]) -> Provisioned
     set_changes::open_known(plan, body)
 }
 
-// A call over a plan that is known to be sound.
-fn change(plan: &mut [u8], kind: u8, body: &[u8]) -> Provisioned
-    requires { ⌜ (soundOf (now plan) ≡ true) × (kind ≢ OPEN-PLAN) × (isCall kind ≡ true) × (length (now body) ≡ bodyLength kind) ⌝ }
-    ensures { λ r. ⌜ RunProvides (callOf kind (now (body .entry))) (now (plan .entry)) (now (plan .exit)) (numberOfProvisioned r) ⌝ }
-{
-    match kind {
-        kinds::ADD_SET => set_changes::add_set_known(plan, body),
-        kinds::REPLACE_SET => set_changes::replace_set_known(plan, body),
-        kinds::REMOVE_SET => set_changes::remove_set_known(plan, body),
-        kinds::ADD_RULE => rule_changes::add_rule_known(plan, body),
-        kinds::CHANGE_RULE => rule_changes::change_rule_known(plan, body),
-        _ => rule_changes::remove_rule_known(plan, body),
-    }
-}
-
 // The call of a kind.
-pub fn provision(plan: &mut [u8], opened: bool, kind: u8, body: &[u8]) -> Provisioned
+pub fn carry_out(plan: &mut [u8], opened: bool, kind: u8, body: &[u8]) -> Provisioned
     requires { ⌜ InRun (now plan) opened × (isCall kind ≡ true) × (length (now body) ≡ bodyLength kind) ⌝ }
     ensures { λ r. ⌜ RunProvides (callOf kind (now (body .entry))) (now (plan .entry)) (now (plan .exit)) (numberOfProvisioned r) ⌝ }
 {
@@ -53,5 +36,5 @@ pub fn provision(plan: &mut [u8], opened: bool, kind: u8, body: &[u8]) -> Provis
     if !opened {
         return Provisioned::Refused(Refusal::Plan);
     }
-    change(plan, kind, body)
+    provision::change_known(plan, kind, body)
 }

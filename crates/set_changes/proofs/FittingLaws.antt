@@ -1,6 +1,6 @@
 -- A walk that asks whether a content fits every rule that names a set: what is left decides.
 use Prim.Native.Nat.{ℕ, _+_, _*_, _-_, _≤_, _<_}
-use mathlib.Core.Path.{_≡_, sym, _∙_}
+use mathlib.Core.Path.{_≡_, _∙_}
 use mathlib.Core.Bool.{Bool, true, false, _&&_, _||_, not}
 use mathlib.Core.List.{List}
 use native.Mathlib.Omega.{arith}
@@ -13,6 +13,9 @@ use Rattle.meaning.specs.Filters.{filterOf}
 use Rattle.meaning.specs.Rules.{Rule, filterIn, names}
 use Rattle.meaning.specs.Actions.{actionsOf}
 use Rattle.meaning.specs.Groups.{fit}
+use Rattle.meaning.specs.Calls.{setNumber, contentGiven}
+use Rattle.meaning.specs.Answers.{setOf}
+use Rattle.meaning.specs.declared.SetNumber.{SetNumber}
 use Rattle.filter.specs.Slots.{ruleOf, rulesOf}
 use Rattle.filter.proofs.RuleLaws.{filter-in, rulesFrom, rules-full, rules-end, rules-more}
 
@@ -53,9 +56,7 @@ module _ (set : ℕ) (content area : List ℕ) (n i : ℕ) (h : Fitting set cont
   pub fitting-all : n ≤ i → all (fitting set content) (rulesOf n area) ≡ true
   fitting-all l = h ∙ rw (rules-end n i area l)
 
--- the rules of a plan are those of its area, as many as it counts
-pub fitting-plan : (set : ℕ) (content area : List ℕ) (n k : ℕ) (rules : List Rule) {r value : Bool} → k ≡ n → rulesOf n area ≡ rules
-    → r ≡ all (fitting set content) (rulesOf k area) → r ≡ value → all (fitting set content) rules ≡ value
-fitting-plan set content area n k rules count-is rules-are e h =
-    let f : all (fitting set content) (rulesOf k area) ≡ all (fitting set content) rules = rw (count-is, rules-are) in
-    sym f ∙ (sym e ∙ h)
+-- by the set and the content that a body gives, over the rules of a plan
+pub fitting-plan : {set : SetNumber} {content : List ℕ} {rules : List Rule} {r : Bool} (n : ℕ) (area b : List ℕ) → set ≡ setOf (setNumber b) → content ≡ contentGiven b
+    → rulesOf n area ≡ rules → r ≡ all (fitting (set .0) content) (rulesOf n area) → r ≡ all (fitting (setNumber b) (contentGiven b)) rules
+fitting-plan n area b set-is content-is rules-are e = e ∙ rw (set-is, content-is, rules-are)

@@ -1,21 +1,27 @@
-// Opening, and the calls about sets, over a plan that is known to be sound, with a body of just its length: each refuses by its checks, in
-// document 01's order, or edits the plan.
+// Opening, and the calls about sets over a plan that is known to be sound, with a body of just its length: the refusal of each, by its checks in
+// document 01's order, and what an accepted one makes of the plan.
 ghost use mathlib.Core.Path.{_≡_};
-ghost use mathlib.Core.Bool.{true, false, _||_, not};
+ghost use mathlib.Core.Bool.{true, false, _&&_, _||_, not};
+ghost use mathlib.Core.List.{_++_};
+ghost use mathlib.Core.Option.{none, some};
 ghost use Prim.Native.Nat.{_+_, _*_, _<_};
 ghost use lib.ListN.{length};
 ghost use Rattle.meaning.specs.Sizes.{OPENING-BYTES, SET-NUMBER-BYTES, CONTENT-BYTES, SET-BODY};
-ghost use Rattle.meaning.specs.Basics.{all, word};
+ghost use Rattle.meaning.specs.Basics.{all, any};
 ghost use Rattle.meaning.specs.Refusals.{firstOf};
+ghost use Rattle.meaning.specs.Settings.{roomsInRange, settingsInRange};
 ghost use Rattle.meaning.specs.Rules.{Rule, filterIn, names};
-ghost use Rattle.meaning.specs.Actions.{actionsOf};
-ghost use Rattle.meaning.specs.Groups.{fit};
-ghost use Rattle.meaning.specs.Calls.{openPlan, addSet, replaceSet, removeSet, lacksBytes, openingLines, addSetLines, replaceSetLines, removeSetLines};
+ghost use Rattle.meaning.specs.Actions.{actionsOf, contentInRange};
+ghost use Rattle.meaning.specs.Groups.{groupsHold, fit};
+ghost use Rattle.meaning.specs.Plan.{withSlot};
+ghost use Rattle.meaning.specs.Reads.{overRoom};
+ghost use Rattle.meaning.specs.Calls.{openPlan, openedRooms, openedSettings, setNumber, contentGiven, lacksBytes, openingLines, addSetLines, replaceSetLines, removeSetLines};
 ghost use Rattle.meaning.specs.Answers.{numberOfProvisioned};
 ghost use Rattle.filter.specs.Slots.{rulesOf, RuleArea};
-ghost use Rattle.plan.specs.Layout.{planOf};
-ghost use Rattle.plan.specs.State.{soundOf};
+ghost use Rattle.plan.specs.Layout.{image, planOf};
+ghost use Rattle.plan.specs.State.{soundOf, restOf};
 ghost use Rattle.changes.specs.Promise.{Provides, calls};
+use changes::content_given;
 use meaning::Provisioned;
 use meaning::Refusal;
 use meaning::RulePlace;
@@ -23,23 +29,39 @@ use meaning::SetNumber;
 use meaning::sizes::OPENING_BYTES;
 use meaning::sizes::ROOMS_BYTES;
 use meaning::sizes::RULE_WIDTH;
-use meaning::sizes::SET_BODY;
-use meaning::sizes::SET_NUMBER_BYTES;
 use meaning::sizes::SET_WIDTH;
 use meaning::sizes::SETS_AT;
+
+// OPENING
+
+// RANGE of an opening: its rooms and its settings.
+fn opening_in_range(body: &[u8]) -> bool
+    requires { ⌜ length (now body) ≡ OPENING-BYTES ⌝ }
+    ensures { λ r. ⌜ r ≡ (roomsInRange (openedRooms (now (body .entry))) && settingsInRange (openedSettings (now (body .entry)))) ⌝ }
+{
+    if !ranges::rooms_in_range(&body[0..ROOMS_BYTES]) {
+        return false;
+    }
+    ranges::settings_in_range(&body[ROOMS_BYTES..OPENING_BYTES])
+}
+
+// ROOM of an opening: `size` bytes are too few for its rooms.
+fn lacks_room(size: usize, body: &[u8]) -> bool
+    requires { ⌜ length (now body) ≡ OPENING-BYTES ⌝ }
+    ensures { λ r. ⌜ r ≡ lacksBytes size (openedRooms (now (body .entry))) ⌝ }
+{
+    size < SETS_AT + SET_WIDTH * buffer::word(body, 0) + RULE_WIDTH * buffer::word(body, 2)
+}
 
 // The refusal of an opening over a memory of `size` bytes.
 pub fn opening_refusal(size: usize, body: &[u8]) -> Provisioned
     requires { ⌜ length (now body) ≡ OPENING-BYTES ⌝ }
     ensures { λ r. ⌜ numberOfProvisioned r ≡ firstOf (openingLines (lacksBytes size) (now (body .entry))) ⌝ }
 {
-    if !ranges::rooms_in_range(&body[0..ROOMS_BYTES]) {
+    if !opening_in_range(body) {
         return Provisioned::Refused(Refusal::Range);
     }
-    if !ranges::settings_in_range(&body[ROOMS_BYTES..OPENING_BYTES]) {
-        return Provisioned::Refused(Refusal::Range);
-    }
-    if size < SETS_AT + SET_WIDTH * buffer::word(body, 0) + RULE_WIDTH * buffer::word(body, 2) {
+    if lacks_room(size, body) {
         return Provisioned::Refused(Refusal::Room);
     }
     Provisioned::Accepted
@@ -62,41 +84,41 @@ pub fn open_known(plan: &mut [u8], body: &[u8]) -> Provisioned
     }
 }
 
-fn add_set_refusal(plan: &[u8], body: &[u8]) -> Provisioned
+// THE REFUSALS
+
+// RANGE of a set that a body gives: its number is at or over the room, or its content out of range.
+fn out_of_range(plan: &[u8], body: &[u8]) -> bool
+    requires { ⌜ (soundOf (now plan) ≡ true) × (length (now body) ≡ SET-BODY) ⌝ }
+    ensures { λ r. ⌜ r ≡ (overRoom (planOf (now (plan .entry))) (setNumber (now (body .entry))) || not (contentInRange (contentGiven (now (body .entry))))) ⌝ }
+{
+    if changes::is_over_room(plan, body, 0) {
+        return true;
+    }
+    !actions::content_in_range(content_given(body))
+}
+
+// GROUPS of a set that a body gives: its content keeps the group rules.
+fn keeps_groups(body: &[u8]) -> bool
+    requires { ⌜ length (now body) ≡ SET-BODY ⌝ }
+    ensures { λ r. ⌜ r ≡ groupsHold (actionsOf (contentGiven (now (body .entry)))) ⌝ }
+{
+    groups::groups_hold(content_given(body))
+}
+
+pub fn add_set_refusal(plan: &[u8], body: &[u8]) -> Provisioned
     requires { ⌜ (soundOf (now plan) ≡ true) × (length (now body) ≡ SET-BODY) ⌝ }
     ensures { λ r. ⌜ numberOfProvisioned r ≡ firstOf (addSetLines (planOf (now (plan .entry))) (now (body .entry))) ⌝ }
 {
-    let set = plan::set_number(body, 0);
-    if plan::is_over_room(plan, set) {
+    if out_of_range(plan, body) {
         return Provisioned::Refused(Refusal::Range);
     }
-    if !actions::content_in_range(&body[SET_NUMBER_BYTES..SET_BODY]) {
-        return Provisioned::Refused(Refusal::Range);
-    }
-    if !groups::groups_hold(&body[SET_NUMBER_BYTES..SET_BODY]) {
+    if !keeps_groups(body) {
         return Provisioned::Refused(Refusal::Groups);
     }
-    if plan::is_held(plan, set) {
+    if changes::is_held(plan, body, 0) {
         return Provisioned::Refused(Refusal::Taken);
     }
     Provisioned::Accepted
-}
-
-pub fn add_set_known(plan: &mut [u8], body: &[u8]) -> Provisioned
-    requires { ⌜ (soundOf (now plan) ≡ true) × (length (now body) ≡ SET-BODY) ⌝ }
-    ensures { λ r. ⌜ Provides (calls addSet (now (body .entry))) (now (plan .entry)) (now (plan .exit)) (numberOfProvisioned r) ⌝ }
-{
-    match add_set_refusal(plan, body) {
-        Provisioned::Refused(r) => Provisioned::Refused(r),
-        Provisioned::Accepted => {
-            plan::store_set(
-                plan,
-                plan::set_number(body, 0),
-                &body[SET_NUMBER_BYTES..SET_BODY],
-            );
-            Provisioned::Accepted
-        }
-    }
 }
 
 // Whether a content fits every one of the first `count` rules of an area that names a set.
@@ -121,77 +143,76 @@ fn all_fit(rules: &[u8], count: usize, set: SetNumber, content: &[u8]) -> bool
     true
 }
 
-fn replace_set_refusal(plan: &[u8], body: &[u8]) -> Provisioned
+// Whether the content that a body gives fits every rule that names its set.
+fn fits_rules(plan: &[u8], body: &[u8]) -> bool
+    requires { ⌜ (soundOf (now plan) ≡ true) × (length (now body) ≡ SET-BODY) ⌝ }
+    ensures { λ r. ⌜ r ≡ all (λ (x : Rule). not (names (setNumber (now (body .entry))) x) || fit (filterIn x) (actionsOf (contentGiven (now (body .entry))))) (planOf (now (plan .entry)) .rules) ⌝ }
+{
+    all_fit(
+        plan::rules(plan),
+        plan::rule_count(plan),
+        plan::set_number(body, 0),
+        content_given(body),
+    )
+}
+
+pub fn replace_set_refusal(plan: &[u8], body: &[u8]) -> Provisioned
     requires { ⌜ (soundOf (now plan) ≡ true) × (length (now body) ≡ SET-BODY) ⌝ }
     ensures { λ r. ⌜ numberOfProvisioned r ≡ firstOf (replaceSetLines (planOf (now (plan .entry))) (now (body .entry))) ⌝ }
 {
-    let set = plan::set_number(body, 0);
-    if plan::is_over_room(plan, set) {
+    if out_of_range(plan, body) {
         return Provisioned::Refused(Refusal::Range);
     }
-    if !actions::content_in_range(&body[SET_NUMBER_BYTES..SET_BODY]) {
-        return Provisioned::Refused(Refusal::Range);
-    }
-    if !groups::groups_hold(&body[SET_NUMBER_BYTES..SET_BODY]) {
+    if !keeps_groups(body) {
         return Provisioned::Refused(Refusal::Groups);
     }
-    if !plan::is_held(plan, set) {
+    if !changes::is_held(plan, body, 0) {
         return Provisioned::Refused(Refusal::Absent);
     }
-    if !all_fit(
-        plan::rules(plan),
-        plan::rule_count(plan),
-        set,
-        &body[SET_NUMBER_BYTES..SET_BODY],
-    ) {
+    if !fits_rules(plan, body) {
         return Provisioned::Refused(Refusal::Misfit);
     }
     Provisioned::Accepted
 }
 
-pub fn replace_set_known(plan: &mut [u8], body: &[u8]) -> Provisioned
-    requires { ⌜ (soundOf (now plan) ≡ true) × (length (now body) ≡ SET-BODY) ⌝ }
-    ensures { λ r. ⌜ Provides (calls replaceSet (now (body .entry))) (now (plan .entry)) (now (plan .exit)) (numberOfProvisioned r) ⌝ }
+// Whether a rule names the set that a body names.
+fn is_named(plan: &[u8], body: &[u8]) -> bool
+    requires { ⌜ (soundOf (now plan) ≡ true) × (length (now body) ≡ SET-NUMBER-BYTES) ⌝ }
+    ensures { λ r. ⌜ r ≡ any (names (setNumber (now (body .entry)))) (planOf (now (plan .entry)) .rules) ⌝ }
 {
-    match replace_set_refusal(plan, body) {
-        Provisioned::Refused(r) => Provisioned::Refused(r),
-        Provisioned::Accepted => {
-            plan::store_set(
-                plan,
-                plan::set_number(body, 0),
-                &body[SET_NUMBER_BYTES..SET_BODY],
-            );
-            Provisioned::Accepted
-        }
-    }
+    0 < plan::referrers(plan, plan::set_number(body, 0))
 }
 
-fn remove_set_refusal(plan: &[u8], body: &[u8]) -> Provisioned
+pub fn remove_set_refusal(plan: &[u8], body: &[u8]) -> Provisioned
     requires { ⌜ (soundOf (now plan) ≡ true) × (length (now body) ≡ SET-NUMBER-BYTES) ⌝ }
     ensures { λ r. ⌜ numberOfProvisioned r ≡ firstOf (removeSetLines (planOf (now (plan .entry))) (now (body .entry))) ⌝ }
 {
-    let set = plan::set_number(body, 0);
-    if plan::is_over_room(plan, set) {
+    if changes::is_over_room(plan, body, 0) {
         return Provisioned::Refused(Refusal::Range);
     }
-    if !plan::is_held(plan, set) {
+    if !changes::is_held(plan, body, 0) {
         return Provisioned::Refused(Refusal::Absent);
     }
-    if 0 < plan::referrers(plan, set) {
+    if is_named(plan, body) {
         return Provisioned::Refused(Refusal::InUse);
     }
     Provisioned::Accepted
 }
 
-pub fn remove_set_known(plan: &mut [u8], body: &[u8]) -> Provisioned
-    requires { ⌜ (soundOf (now plan) ≡ true) × (length (now body) ≡ SET-NUMBER-BYTES) ⌝ }
-    ensures { λ r. ⌜ Provides (calls removeSet (now (body .entry))) (now (plan .entry)) (now (plan .exit)) (numberOfProvisioned r) ⌝ }
+// WHAT AN ACCEPTED CALL MAKES
+
+// The set that a body gives, added or replaced.
+pub fn store_given(plan: &mut [u8], body: &[u8])
+    requires { ⌜ (soundOf (now plan) ≡ true) × (length (now body) ≡ SET-BODY) × (overRoom (planOf (now plan)) (setNumber (now body)) ≡ false) ⌝ }
+    ensures { λ _. ⌜ now (plan .exit) ≡ image (withSlot (setNumber (now (body .entry))) (some (contentGiven (now (body .entry)))) (planOf (now (plan .entry)))) ++ restOf (now (plan .entry)) ⌝ }
 {
-    match remove_set_refusal(plan, body) {
-        Provisioned::Refused(r) => Provisioned::Refused(r),
-        Provisioned::Accepted => {
-            plan::clear_set(plan, plan::set_number(body, 0));
-            Provisioned::Accepted
-        }
-    }
+    plan::store_set(plan, plan::set_number(body, 0), content_given(body));
+}
+
+// The set that a body names, removed.
+pub fn clear_given(plan: &mut [u8], body: &[u8])
+    requires { ⌜ (soundOf (now plan) ≡ true) × (length (now body) ≡ SET-NUMBER-BYTES) × (overRoom (planOf (now plan)) (setNumber (now body)) ≡ false) ⌝ }
+    ensures { λ _. ⌜ now (plan .exit) ≡ image (withSlot (setNumber (now (body .entry))) none (planOf (now (plan .entry)))) ++ restOf (now (plan .entry)) ⌝ }
+{
+    plan::clear_set(plan, plan::set_number(body, 0));
 }

@@ -59,7 +59,9 @@ part-carry-out-end c =
     omega (arith, whole .fits, c .before .body-length .ensures .is)
 
 carry-out-requires : tie.Need-carry-out-requires Inv-loop μ-loop
-carry-out-requires c κs = search needs
+carry-out-requires c κs =
+    let w = c .before .before .before .before in
+    going-whole (w .before .before .before .loop .inv) (sym (w .before .is-whole .ensures) ∙ not-false _ (w .if1 .left)) .kind
 
 number-requires : tie.Need-number-requires Inv-loop μ-loop
 number-requires c κs = search needs

@@ -4,8 +4,8 @@ use Rattle.record.proofs.CallLines.{call-line}
 use Rattle.record.proofs.call_record.Statement.{statement}
 use Rattle.record.proofs.call_record.Tie as tie
 
-provision-requires : tie.Need-provision-requires
-provision-requires c κs = search needs
+carry-out-requires : tie.Need-carry-out-requires
+carry-out-requires c κs = search needs
 
 accepted-line-requires : tie.Need-accepted-line-requires
 accepted-line-requires c κs = search needs
@@ -29,13 +29,13 @@ returns : tie.Need-returns
 returns c =
     let b = c .before .before .before .before .before .before .before .before .before .before .before .before .before in
     call-line (b .args .plan .now) (b .args .run .opened) (b .pre .0) (b .args .kind) (b .pre .1) (b .args .body .now) (b .pre .2) (b .args .run .lines) _
-    (c .before .before .before .before .before .before .before .before .provision .ensures) (c .before .before .before .before .accepted-line .ensures) (c .before .opened-after .ensures) (c .line-of .ensures)
+    (c .before .before .before .before .before .before .before .before .carry-out .ensures) (c .before .before .before .before .accepted-line .ensures) (c .before .opened-after .ensures) (c .line-of .ensures)
 
 pub call-record-spec : {M : Type 1} → statement M
 call-record-spec =
     tie.close
     (tie.spec
-    provision-requires
+    carry-out-requires
     accepted-line-requires
     add-line-of
     opened-after-requires

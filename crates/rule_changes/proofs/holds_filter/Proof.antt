@@ -1,21 +1,11 @@
--- What the lookup says of the rule area holds of the plan's rules.
-use native.Mathlib.Omega.{arith}
+-- By the answer of the lookup.
 use borrow.Author.Needs.{needs}
-use Rattle.plan.proofs.ReadLaws.{numbers}
-use Rattle.rule_changes.proofs.PlaceAnswers.{held-found, absent-found, held-place, absent-place}
-use Rattle.plan.proofs.PlacedRules.{area-is}
+use Rattle.rule_changes.proofs.Given.{held-found, absent-found}
 use Rattle.rule_changes.proofs.holds_filter.Statement.{statement}
 use Rattle.rule_changes.proofs.holds_filter.Tie as tie
 
-rules-requires : tie.Need-rules-requires
-rules-requires c κs = search needs
-
-rule-count-requires : tie.Need-rule-count-requires
-rule-count-requires c κs = omega (arith, numbers (c .before .before .before .args .plan .now) (c .before .before .before .pre .0) .header)
-
-find-requires : tie.Need-find-requires
-find-requires c κs =
-    (area-is (c .before .before .before .before .args .plan .now) _ _ (c .before .rules .ensures) (c .rule-count .ensures .is), c .before .before .before .before .pre .1)
+find-given-requires : tie.Need-find-given-requires
+find-given-requires c κs = search needs
 
 enum-told : tie.Need-enum-told
 enum-told c = search needs
@@ -25,24 +15,15 @@ enum-told-2 c = search needs
 
 returns : tie.Need-returns
 returns c =
-    let b = c .before .before .before .before .before .before .before in
-    held-found (b .args .plan .now) _ (b .args .code .now) _ (c .before .before .find .result) (c .before .before .before .before .rules .ensures)
-    (c .before .before .before .rule-count .ensures .is) (c .before .before .find .ensures) _ (b .pre .0) (c .enum-told .given .1)
+    let found = c .before .before in
+    let start = found .before .before .before in
+    held-found (start .args .plan .now) (start .args .body .now) (start .pre) _ (found .find-given .ensures) _ (c .enum-told .given .1)
 
 returns-2 : tie.Need-returns-2
 returns-2 c =
-    let b = c .before .before .before .before .before .before .before in
-    absent-found (b .args .plan .now) _ (b .args .code .now) _ (c .before .before .find .result) (c .before .before .before .before .rules .ensures)
-    (c .before .before .before .rule-count .ensures .is) (c .before .before .find .ensures) _ (b .pre .0) (c .enum-told2 .given .1)
+    let found = c .before .before in
+    let start = found .before .before .before in
+    absent-found (start .args .plan .now) (start .args .body .now) (start .pre) _ (found .find-given .ensures) _ (c .enum-told2 .given .1)
 
 pub holds-filter-spec : {M : Type 1} → statement M
-holds-filter-spec =
-    tie.close
-    (tie.spec
-    rules-requires
-    rule-count-requires
-    find-requires
-    enum-told
-    enum-told-2
-    returns
-    returns-2)
+holds-filter-spec = tie.close (tie.spec find-given-requires enum-told enum-told-2 returns returns-2)
