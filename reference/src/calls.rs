@@ -135,6 +135,13 @@ pub struct Answered {
 }
 
 impl Answered {
+    pub fn of(result: &Checked<Answer>) -> Answered {
+        match result {
+            Ok(answer) => Answered::accepted(answer),
+            Err(refusal) => Answered::refused(*refusal),
+        }
+    }
+
     fn accepted(answer: &Answer) -> Answered {
         let mut actions = [0; MOST_SERVICES];
         for (place, service) in actions.iter_mut().zip(&answer.carried_out) {
@@ -160,13 +167,11 @@ impl Answered {
 }
 
 pub fn answer(memory: &[u8], body: &[u8], out: &mut [u8]) -> Answered {
-    match try_answer(memory, body, out) {
-        Ok(answer) => {
-            write_front(out, &answer.digits);
-            Answered::accepted(&answer)
-        }
-        Err(refusal) => Answered::refused(refusal),
+    let result = try_answer(memory, body, out);
+    if let Ok(answer) = &result {
+        write_front(out, &answer.digits);
     }
+    Answered::of(&result)
 }
 
 fn try_answer(memory: &[u8], body: &[u8], out: &[u8]) -> Checked<Answer> {
