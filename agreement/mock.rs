@@ -3,52 +3,17 @@
 //! `--cfg fault_N` it has one fault, which the program must find
 //! (agreement/faults).
 
+#[path = "src/alike.rs"]
+pub mod alike;
+#[path = "../rust/src/c.rs"]
+pub mod c;
+
 use npp_reference::bodies::{self, Kind};
 use npp_reference::calls::{self, Answered};
 use npp_reference::plan::Plan;
 use npp_reference::process;
 use npp_reference::rules::*;
 use npp_reference::{layout, rules};
-
-#[repr(C)]
-pub struct NppAnswered {
-    refusal: u8,
-    outcome: u8,
-    class: u8,
-    response: u8,
-    count: u8,
-    actions: [u8; 8],
-    digits: u64,
-}
-
-#[repr(C)]
-pub struct NppWritten {
-    refusal: u8,
-    bytes: u64,
-}
-
-#[repr(C)]
-pub struct NppCounted {
-    refusal: u8,
-    rules: u64,
-}
-
-#[repr(C)]
-pub struct NppSpan {
-    start: u64,
-    count: u64,
-}
-
-#[repr(C)]
-#[derive(Default)]
-pub struct NppListed {
-    refusal: u8,
-    class: u8,
-    prefix_length: u8,
-    length: u8,
-    prefix: [u8; 16],
-    set: u16,
-}
 
 unsafe fn lent<'a>(at: *const u8, count: usize) -> &'a [u8] {
     match count {
@@ -70,8 +35,11 @@ unsafe fn lent_mut<'a>(at: *mut u8, count: usize) -> &'a mut [u8] {
 /// # Safety
 /// The pointer and the length are those of a slice.
 #[no_mangle]
-pub unsafe extern "C" fn npp_sound(memory: *const u8, n: usize) -> bool {
-    let memory = lent(memory, n);
+pub unsafe extern "C" fn npp_sound(memory: *const u8, n: usize) -> u8 {
+    u8::from(sound(lent(memory, n)))
+}
+
+fn sound(memory: &[u8]) -> bool {
     let mut copy = memory.to_vec();
     if cfg!(fault_1) && copy.len() >= 64 {
         // The unused bytes at the header's end are not looked at.
@@ -79,7 +47,7 @@ pub unsafe extern "C" fn npp_sound(memory: *const u8, n: usize) -> bool {
     }
     if cfg!(fault_2) {
         // The size asked is a byte too large.
-        return layout::decode(memory).is_some_and(|plan| n > layout::size(plan.rooms));
+        return layout::decode(memory).is_some_and(|plan| memory.len() > layout::size(plan.rooms));
     }
     if cfg!(fault_3) && calls::sound(&without_repeated(&copy)) {
         // One filter may stand twice.
@@ -285,28 +253,10 @@ fn answered(plan: &[u8], body: &[u8], out: &mut [u8]) -> Answered {
         if let Some((filter, set)) = first {
             out.copy_from_slice(&before);
             let answer = process::carry_out(&plan.sets[set], filter, &number, &plan.settings);
-            return match answer {
-                Ok(answer) => {
-                    out[..answer.digits.len()].copy_from_slice(&answer.digits);
-                    let mut actions = [0; 8];
-                    for (place, service) in actions.iter_mut().zip(&answer.carried_out) {
-                        *place = service.code();
-                    }
-                    Answered {
-                        refusal: 0,
-                        outcome: answer.outcome as u8,
-                        class: answer.class.byte(),
-                        response: answer.response.map_or(0, |response| response as u8),
-                        count: answer.carried_out.len() as u8,
-                        actions,
-                        written: answer.digits.len(),
-                    }
-                }
-                Err(refusal) => Answered {
-                    refusal: refusal.number(),
-                    ..Answered::default()
-                },
-            };
+            if let Ok(answer) = &answer {
+                out[..answer.digits.len()].copy_from_slice(&answer.digits);
+            }
+            return Answered::of(&answer);
         }
     }
     if cfg!(fault_18) && given.refusal == 0 {
@@ -376,24 +326,8 @@ pub unsafe extern "C" fn npp_answer(
     k: usize,
     out: *mut u8,
     m: usize,
-) -> NppAnswered {
-    let given = answered(lent(plan, n), lent(body, k), lent_mut(out, m));
-    NppAnswered {
-        refusal: given.refusal,
-        outcome: given.outcome,
-        class: given.class,
-        response: given.response,
-        count: given.count,
-        actions: given.actions,
-        digits: given.written as u64,
-    }
-}
-
-fn written(result: Checked<usize>) -> NppWritten {
-    NppWritten {
-        refusal: calls::refusal_number(result),
-        bytes: result.unwrap_or(0) as u64,
-    }
+) -> c::Answered {
+    answered(lent(plan, n), lent(body, k), lent_mut(out, m)).into()
 }
 
 /// # Safety
@@ -407,13 +341,13 @@ pub unsafe extern "C" fn npp_conditioned(
     k: usize,
     out: *mut u8,
     m: usize,
-) -> NppWritten {
-    let given = calls::conditioned(lent(plan, n), class, lent(digits, k), lent_mut(out, m));
+) -> c::Written {
+    let mut given = calls::conditioned(lent(plan, n), class, lent(digits, k), lent_mut(out, m));
     if cfg!(fault_25) && given == Err(Refusal::Short) {
         // Too few digits give none, and are not refused.
-        return written(Ok(0));
+        given = Ok(0);
     }
-    written(given)
+    given.into()
 }
 
 /// # Safety
@@ -425,7 +359,7 @@ pub unsafe extern "C" fn npp_set_content(
     set: u16,
     out: *mut u8,
     m: usize,
-) -> NppWritten {
+) -> c::Written {
     let (plan, out) = (lent(plan, n), lent_mut(out, m));
     if cfg!(fault_26) && (35..47).contains(&m) {
         // The buffer of a number is taken for a set's content.
@@ -434,24 +368,21 @@ pub unsafe extern "C" fn npp_set_content(
         if given.is_ok() {
             out.copy_from_slice(&longer[..m]);
         }
-        return written(given);
+        return given.into();
     }
-    written(calls::set_content(plan, SetNumber(set), out))
+    calls::set_content(plan, SetNumber(set), out).into()
 }
 
 /// # Safety
 /// The pointer and the length are those of a slice.
 #[no_mangle]
-pub unsafe extern "C" fn npp_referrers(plan: *const u8, n: usize, set: u16) -> NppCounted {
+pub unsafe extern "C" fn npp_referrers(plan: *const u8, n: usize, set: u16) -> c::Counted {
     let mut given = calls::referrers(lent(plan, n), SetNumber(set));
     if cfg!(fault_27) && given == Err(Refusal::Absent) {
         // No rule names a set that is not there.
         given = Ok(0);
     }
-    NppCounted {
-        refusal: calls::refusal_number(given),
-        rules: given.unwrap_or(0) as u64,
-    }
+    given.into()
 }
 
 /// # Safety
@@ -464,7 +395,7 @@ pub unsafe extern "C" fn npp_stretch(
     digits: *const u8,
     k: usize,
     value: u8,
-) -> NppSpan {
+) -> c::Span {
     let digits = lent(digits, k);
     let (mut start, count) = calls::stretch(lent(plan, n), class, digits, value);
     if cfg!(fault_28) && count > 0 {
@@ -475,10 +406,7 @@ pub unsafe extern "C" fn npp_stretch(
             .position(|part| part == same)
             .unwrap_or(0);
     }
-    NppSpan {
-        start: start as u64,
-        count: count as u64,
-    }
+    (start, count).into()
 }
 
 // ---------------------------------------------------------------------------
@@ -487,43 +415,25 @@ pub unsafe extern "C" fn npp_stretch(
 /// # Safety
 /// The pointer and the length are those of a slice.
 #[no_mangle]
-pub unsafe extern "C" fn npp_rule_count(plan: *const u8, n: usize) -> NppCounted {
-    let given = calls::rule_count(lent(plan, n));
-    NppCounted {
-        refusal: calls::refusal_number(given),
-        rules: given.unwrap_or(0) as u64,
-    }
+pub unsafe extern "C" fn npp_rule_count(plan: *const u8, n: usize) -> c::Counted {
+    calls::rule_count(lent(plan, n)).into()
 }
 
 /// # Safety
 /// The pointer and the length are those of a slice.
 #[no_mangle]
-pub unsafe extern "C" fn npp_rule_at(plan: *const u8, n: usize, place: u16) -> NppListed {
-    let plan = lent(plan, n);
-    match calls::rule_at(plan, RulePlace(usize::from(place))) {
-        Ok((filter, SetNumber(set))) => {
-            let mut prefix = [0; 16];
-            prefix[..filter.prefix.len()].copy_from_slice(&filter.prefix);
-            NppListed {
-                refusal: 0,
-                class: filter.class.byte(),
-                prefix_length: filter.prefix.len() as u8,
-                length: filter.length.unwrap_or(0),
-                prefix,
-                // Only the low byte of the set's number.
-                set: if cfg!(fault_29) { set & 255 } else { set },
-            }
-        }
-        // A place at the count is taken for an absent rule.
-        Err(Refusal::Range) if cfg!(fault_30) => NppListed {
-            refusal: 8,
-            ..NppListed::default()
-        },
-        Err(refusal) => NppListed {
-            refusal: refusal.number(),
-            ..NppListed::default()
-        },
+pub unsafe extern "C" fn npp_rule_at(plan: *const u8, n: usize, place: u16) -> c::Listed {
+    let given = calls::rule_at(lent(plan, n), RulePlace(usize::from(place)));
+    let mut listed = c::Listed::from(given);
+    if cfg!(fault_29) {
+        // Only the low byte of the set's number.
+        listed.set &= 255;
     }
+    if cfg!(fault_30) && listed.refusal == 5 {
+        // A place at the count is taken for an absent rule.
+        listed.refusal = 8;
+    }
+    listed
 }
 
 /// # Safety
@@ -536,7 +446,7 @@ pub unsafe extern "C" fn npp_replay(
     k: usize,
     numbers: *mut u8,
     m: usize,
-) -> u64 {
+) -> usize {
     let (plan, list, numbers) = (lent_mut(plan, n), lent(calls_at, k), lent_mut(numbers, m));
     let mut done = calls::replay(plan, list, numbers);
     let mut end = 0;
@@ -558,5 +468,5 @@ pub unsafe extern "C" fn npp_replay(
         numbers[done] = 1;
         done += 1;
     }
-    done as u64
+    done
 }

@@ -7,10 +7,12 @@
     allow(dead_code)
 )]
 
+mod alike;
 mod bench;
+#[path = "../../rust/src/c.rs"]
+mod c;
 mod lent;
 mod maker;
-mod npp;
 mod random;
 #[cfg(stage_listing)]
 mod stage_listing;

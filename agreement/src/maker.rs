@@ -18,11 +18,6 @@ pub struct Maker {
 /// The wrong values that a byte is changed to.
 pub const WRONG: usize = 7;
 
-/// The refusal number of the reference.
-pub fn number_of<T>(result: Checked<T>) -> u8 {
-    calls::refusal_number(result)
-}
-
 impl Maker {
     pub fn new(mut random: Random) -> Maker {
         let digits = random.between(2, 4);

@@ -1,9 +1,9 @@
 //! The listing, and `replay` over files of provisioning calls.
 
 use crate::bench::{hex, Bench};
+use crate::c;
 use crate::lent::Lent;
 use crate::maker::Maker;
-use crate::npp::{self, NppCounted, NppListed};
 use crate::random::Random;
 use npp_reference::bodies::Kind;
 use npp_reference::rules::{Rooms, RulePlace};
@@ -39,12 +39,8 @@ fn rule_count(bench: &mut Bench, plan: &Lent) {
     let before = plan.clone();
     let lines = || format!("memory {}\nrule_count", hex(before.slice()));
     bench.about_to(lines);
-    let given = calls::rule_count(before.slice());
-    let reference = NppCounted {
-        refusal: calls::refusal_number(given),
-        rules: given.unwrap_or(0) as u64,
-    };
-    let library = npp::rule_count(plan.slice());
+    let reference = c::Counted::from(calls::rule_count(before.slice()));
+    let library = c::rule_count(plan.slice());
     let lent = [("plan", plan, &before)];
     bench.agree("rule_count", lines, &library, &reference, &lent);
     bench.count("rule_count", reference.refusal);
@@ -54,25 +50,9 @@ fn rule_at(bench: &mut Bench, plan: &Lent, place: u16) {
     let before = plan.clone();
     let lines = || format!("memory {}\nrule_at {place}", hex(before.slice()));
     bench.about_to(lines);
-    let mut reference = NppListed {
-        refusal: 0,
-        class: 0,
-        prefix_length: 0,
-        length: 0,
-        prefix: [0; 16],
-        set: 0,
-    };
-    match calls::rule_at(before.slice(), RulePlace(usize::from(place))) {
-        Ok((filter, set)) => {
-            reference.class = filter.class.byte();
-            reference.prefix_length = filter.prefix.len() as u8;
-            reference.prefix[..filter.prefix.len()].copy_from_slice(&filter.prefix);
-            reference.length = filter.length.unwrap_or(0);
-            reference.set = set.0;
-        }
-        Err(refusal) => reference.refusal = refusal.number(),
-    }
-    let library = npp::rule_at(plan.slice(), place);
+    let given = calls::rule_at(before.slice(), RulePlace(usize::from(place)));
+    let reference = c::Listed::from(given);
+    let library = c::rule_at(plan.slice(), place);
     let lent = [("plan", plan, &before)];
     bench.agree("rule_at", lines, &library, &reference, &lent);
     bench.count("rule_at", reference.refusal);
@@ -90,8 +70,8 @@ fn replay(bench: &mut Bench, memory: &mut Lent, list: &Lent, mut numbers: Lent) 
         expected.slice_mut(),
         before[1].slice(),
         expected_numbers.slice_mut(),
-    ) as u64;
-    let library = npp::replay(memory.slice_mut(), list.slice(), numbers.slice_mut());
+    );
+    let library = c::replay(memory.slice_mut(), list.slice(), numbers.slice_mut());
     let lent = [
         ("memory", &*memory, &expected),
         ("calls", list, &before[1]),
@@ -99,9 +79,8 @@ fn replay(bench: &mut Bench, memory: &mut Lent, list: &Lent, mut numbers: Lent) 
     ];
     bench.agree("replay", lines, &library, &reference, &lent);
     bench.count("replay", 0);
-    bench.note(REPLAYED, reference);
-    let carried_out = usize::try_from(reference).expect("a count");
-    if bytes_of(list.slice(), carried_out) < list.len() {
+    bench.note(REPLAYED, reference as u64);
+    if bytes_of(list.slice(), reference) < list.len() {
         bench.note(ENDED_EARLY, 1);
     }
 }

@@ -2,13 +2,13 @@
 //! lent buffer, and the plan, which none of them changes.
 
 use crate::bench::{hex, Bench};
+use crate::c;
 use crate::lent::Lent;
 use crate::maker::Maker;
-use crate::npp::{self, NppAnswered, NppCounted, NppSpan, NppWritten};
 use crate::random::Random;
 use npp_reference::layout;
 use npp_reference::plan::Plan;
-use npp_reference::rules::{Checked, Rooms, SetNumber};
+use npp_reference::rules::{Rooms, SetNumber};
 use npp_reference::{bodies, calls};
 
 const STAGE: &str = "number";
@@ -61,16 +61,8 @@ fn answer(bench: &mut Bench, plan: &Lent, body: &Lent, mut out: Lent) {
     bench.about_to(lines);
     let mut expected = out.clone();
     let given = calls::answer(before[0].slice(), before[1].slice(), expected.slice_mut());
-    let reference = NppAnswered {
-        refusal: given.refusal,
-        outcome: given.outcome,
-        class: given.class,
-        response: given.response,
-        count: given.count,
-        actions: given.actions,
-        digits: given.written as u64,
-    };
-    let library = npp::answer(plan.slice(), body.slice(), out.slice_mut());
+    let reference = c::Answered::from(given);
+    let library = c::answer(plan.slice(), body.slice(), out.slice_mut());
     let lent = [
         ("plan", plan, &before[0]),
         ("body", body, &before[1]),
@@ -80,13 +72,6 @@ fn answer(bench: &mut Bench, plan: &Lent, body: &Lent, mut out: Lent) {
     bench.count("answer", reference.refusal);
     if reference.refusal == 0 {
         bench.note(OUTCOMES[usize::from(reference.outcome)], 1);
-    }
-}
-
-fn written(result: Checked<usize>) -> NppWritten {
-    NppWritten {
-        refusal: calls::refusal_number(result),
-        bytes: result.unwrap_or(0) as u64,
     }
 }
 
@@ -100,8 +85,8 @@ fn conditioned(bench: &mut Bench, plan: &Lent, class: u8, digits: &Lent, mut out
     let mut expected = out.clone();
     let (plan_slice, digits_slice) = (before[0].slice(), before[1].slice());
     let given = calls::conditioned(plan_slice, class, digits_slice, expected.slice_mut());
-    let reference = written(given);
-    let library = npp::conditioned(plan.slice(), class, digits.slice(), out.slice_mut());
+    let reference = c::Written::from(given);
+    let library = c::conditioned(plan.slice(), class, digits.slice(), out.slice_mut());
     let lent = [
         ("plan", plan, &before[0]),
         ("digits", digits, &before[1]),
@@ -120,8 +105,8 @@ fn set_content(bench: &mut Bench, plan: &Lent, set: u16, mut out: Lent) {
     bench.about_to(lines);
     let mut expected = out.clone();
     let given = calls::set_content(before[0].slice(), SetNumber(set), expected.slice_mut());
-    let reference = written(given);
-    let library = npp::set_content(plan.slice(), set, out.slice_mut());
+    let reference = c::Written::from(given);
+    let library = c::set_content(plan.slice(), set, out.slice_mut());
     let lent = [("plan", plan, &before[0]), ("buffer", &out, &expected)];
     bench.agree("set_content", lines, &library, &reference, &lent);
     bench.count("set_content", reference.refusal);
@@ -131,12 +116,8 @@ fn referrers(bench: &mut Bench, plan: &Lent, set: u16) {
     let before = plan.clone();
     let lines = || format!("memory {}\nreferrers {set}", hex(before.slice()));
     bench.about_to(lines);
-    let given = calls::referrers(before.slice(), SetNumber(set));
-    let reference = NppCounted {
-        refusal: calls::refusal_number(given),
-        rules: given.unwrap_or(0) as u64,
-    };
-    let library = npp::referrers(plan.slice(), set);
+    let reference = c::Counted::from(calls::referrers(before.slice(), SetNumber(set)));
+    let library = c::referrers(plan.slice(), set);
     let lent = [("plan", plan, &before)];
     bench.agree("referrers", lines, &library, &reference, &lent);
     bench.count("referrers", reference.refusal);
@@ -149,16 +130,13 @@ fn stretch(bench: &mut Bench, plan: &Lent, class: u8, digits: &Lent, value: u8) 
         format!("memory {plan}\nstretch {class} {digits} {value}")
     };
     bench.about_to(lines);
-    let (start, count) = calls::stretch(before[0].slice(), class, before[1].slice(), value);
-    let reference = NppSpan {
-        start: start as u64,
-        count: count as u64,
-    };
-    let library = npp::stretch(plan.slice(), class, digits.slice(), value);
+    let given = calls::stretch(before[0].slice(), class, before[1].slice(), value);
+    let reference = c::Span::from(given);
+    let library = c::stretch(plan.slice(), class, digits.slice(), value);
     let lent = [("plan", plan, &before[0]), ("digits", digits, &before[1])];
     bench.agree("stretch", lines, &library, &reference, &lent);
     bench.count("stretch", 0);
-    if count > 0 {
+    if reference.count > 0 {
         bench.note(STRETCH, 1);
     }
 }

@@ -1,9 +1,9 @@
 //! The examiner: `npp_sound` and the reference give the same verdict.
 
 use crate::bench::{hex, Bench};
+use crate::c;
 use crate::lent::Lent;
 use crate::maker::Maker;
-use crate::npp;
 use crate::random::Random;
 use npp_reference::bodies;
 use npp_reference::rules::Rooms;
@@ -100,7 +100,7 @@ pub fn verdict(bench: &mut Bench, memory: &Lent) -> bool {
     let lines = || format!("memory {}\nsound", hex(before.slice()));
     bench.about_to(lines);
     let reference = u8::from(calls::sound(before.slice()));
-    let library = npp::sound(memory.slice());
+    let library = c::sound(memory.slice());
     let lent = [("memory", memory, &before)];
     bench.agree("sound", lines, &library, &reference, &lent);
     bench.count("sound", 0);

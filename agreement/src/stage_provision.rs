@@ -1,10 +1,10 @@
 //! The seven provisioning calls: the number and every byte of the memory,
 //! with the bytes behind the plan and around the memory.
 
+use crate::alike::PROVISIONING;
 use crate::bench::{hex, Bench};
 use crate::lent::Lent;
-use crate::maker::{number_of, Maker};
-use crate::npp;
+use crate::maker::Maker;
 use crate::random::Random;
 use npp_reference::bodies::{self, Kind};
 use npp_reference::plan::Plan;
@@ -66,8 +66,8 @@ pub fn provision(bench: &mut Bench, kind: Kind, memory: &mut Lent, body: &Lent) 
     bench.about_to(lines);
     let mut expected = memory.clone();
     let call = calls::provisioning(kind).expect("a provisioning call");
-    let reference = number_of(call(expected.slice_mut(), body_before.slice()));
-    let library = npp::PROVISIONING[place](memory.slice_mut(), body.slice());
+    let reference = calls::refusal_number(call(expected.slice_mut(), body_before.slice()));
+    let library = PROVISIONING[place](memory.slice_mut(), body.slice());
     let lent = [
         ("memory", &*memory, &expected),
         ("body", body, &body_before),

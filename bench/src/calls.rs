@@ -1,8 +1,10 @@
 //! Times the public calls of the library beside the reference's.
 
-#[allow(dead_code, unused_imports)]
-#[path = "../../agreement/src/npp.rs"]
-mod npp;
+#[path = "../../agreement/src/alike.rs"]
+mod alike;
+#[allow(dead_code)]
+#[path = "../../rust/src/c.rs"]
+mod c;
 #[allow(dead_code)]
 #[path = "../../agreement/src/random.rs"]
 mod random;
@@ -12,6 +14,7 @@ mod clock;
 mod made;
 mod same;
 
+use alike::PROVISIONING;
 use clock::Clock;
 use made::{rule_body, set_body, Made};
 use npp_reference::bodies::{self, Kind};
@@ -32,11 +35,11 @@ fn main() {
 
 fn time_examiner(clock: &Clock, sets: u16, rules: u16) {
     let memory = layout::encode(&Made::full(sets, rules).plan);
-    assert!(npp::sound(&memory) == 1 && calls::sound(&memory));
+    assert!(c::sound(&memory) == 1 && calls::sound(&memory));
     clock.line(
         &format!("sound {sets} {rules}"),
         1,
-        || assert!(npp::sound(black_box(&memory)) == 1),
+        || assert!(c::sound(black_box(&memory)) == 1),
         || assert!(calls::sound(black_box(&memory))),
     );
 }
@@ -46,14 +49,14 @@ fn time_answer(clock: &Clock) {
     let mut made = Made::full(64, 512);
     let memory = layout::encode(&made.plan);
     let bodies = made.numbers(clock.scaled(512));
-    same::demand_same(&made.plan, &memory, &bodies, npp::answer);
+    same::demand_same(&made.plan, &memory, &bodies, c::answer);
     let (mut our_out, mut their_out) = ([0; same::ROOM], [0; same::ROOM]);
     clock.line(
         "answer 64 512",
         bodies.len(),
         || {
             for body in &bodies {
-                black_box(npp::answer(&memory, black_box(body), &mut our_out));
+                black_box(c::answer(&memory, black_box(body), &mut our_out));
             }
         },
         || {
@@ -99,7 +102,7 @@ fn time_edit(clock: &Clock, name: &str, count: usize, made: &Made, edits: &[Edit
 }
 
 fn our_edit(memory: &mut [u8], (kind, body): &Edit) {
-    let call = npp::PROVISIONING[usize::from(kind.byte())];
+    let call = PROVISIONING[usize::from(kind.byte())];
     assert_eq!(call(black_box(memory), black_box(body)), 0, "refused");
 }
 

@@ -1,9 +1,12 @@
 //! Times one answer and one choice on a plan that is known to be sound: the
 //! library's inner calls beside the reference's over its plan in maps.
 
-#[allow(dead_code, unused_imports)]
-#[path = "../../agreement/src/npp.rs"]
-mod npp;
+#[allow(dead_code)]
+#[path = "../../agreement/src/alike.rs"]
+mod alike;
+#[allow(dead_code)]
+#[path = "../../rust/src/c.rs"]
+mod c;
 #[allow(dead_code)]
 #[path = "../../agreement/src/random.rs"]
 mod random;
@@ -13,9 +16,9 @@ mod clock;
 mod made;
 mod same;
 
+use c::Answered;
 use clock::Clock;
 use made::Made;
-use npp::NppAnswered;
 use npp_reference::bodies;
 use npp_reference::layout;
 use npp_reference::plan::Plan;
@@ -38,7 +41,7 @@ extern "C" {
         k: usize,
         out: *mut u8,
         m: usize,
-    ) -> NppAnswered;
+    ) -> Answered;
 
     fn npp_chosen_known(
         plan: *const u8,
@@ -50,7 +53,7 @@ extern "C" {
 }
 
 /// Every plan and body here is the maker's: sound, and in range.
-fn answer_known(plan: &[u8], body: &[u8], out: &mut [u8]) -> NppAnswered {
+fn answer_known(plan: &[u8], body: &[u8], out: &mut [u8]) -> Answered {
     // SAFETY: pointers and lengths are those of three slices, and the one that
     // is written overlaps no other.
     unsafe {

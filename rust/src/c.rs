@@ -3,6 +3,9 @@
 //!
 //! Every call here is safe for any slices: the library looks at the lengths itself, a Rust slice is
 //! memory that may be lent, and a `&mut` overlaps nothing else.
+//!
+//! agreement/ and bench/ have this file as a module of theirs. Which library is linked is said where a
+//! program is built, and a program that leaves out some of the calls links without their functions.
 
 /// What `npp_answer` gives.
 #[repr(C)]
@@ -43,7 +46,7 @@ pub struct Span {
 
 /// What `npp_rule_at` gives.
 #[repr(C)]
-#[derive(Clone, Copy, Debug, PartialEq, Eq)]
+#[derive(Clone, Copy, Debug, Default, PartialEq, Eq)]
 pub struct Listed {
     pub refusal: u8,
     pub class: u8,
@@ -56,9 +59,9 @@ pub struct Listed {
 pub mod exported {
     use super::{Answered, Counted, Listed, Span, Written};
 
-    #[link(name = "capi", kind = "static")]
     extern "C" {
-        pub fn npp_sound(memory: *const u8, n: usize) -> bool;
+        // A C bool, read as the byte that it is: 0 or 1 by the promise, and any other can be told.
+        pub fn npp_sound(memory: *const u8, n: usize) -> u8;
         pub fn npp_open(plan: *mut u8, n: usize, body: *const u8, k: usize) -> u8;
         pub fn npp_add_set(plan: *mut u8, n: usize, body: *const u8, k: usize) -> u8;
         pub fn npp_replace_set(plan: *mut u8, n: usize, body: *const u8, k: usize) -> u8;
@@ -112,7 +115,7 @@ pub mod exported {
     }
 }
 
-pub fn sound(memory: &[u8]) -> bool {
+pub fn sound(memory: &[u8]) -> u8 {
     // SAFETY: the pointer and the length are those of a slice.
     unsafe { exported::npp_sound(memory.as_ptr(), memory.len()) }
 }

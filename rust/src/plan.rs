@@ -93,7 +93,7 @@ impl<M: AsRef<[u8]>> Plan<M> {
     /// assert!(!npp::Plan::over(b"any bytes").is_sound());
     /// ```
     pub fn is_sound(&self) -> bool {
-        c::sound(self.memory())
+        c::sound(self.memory()) == 1
     }
 
     /// Answers the number of a body ([`bodies::number`](crate::bodies::number)): `npp_answer`. Outcome 4

@@ -510,7 +510,7 @@ fn null_pointers() {
     let (p, n) = (plan.as_mut_ptr(), plan.len());
     // SAFETY: every null pointer comes with length 0; the others are of a slice.
     unsafe {
-        assert!(!npp_sound(null(), 0));
+        assert_eq!(npp_sound(null(), 0), 0);
         for call in [
             npp_open,
             npp_add_set,
