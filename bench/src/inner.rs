@@ -33,6 +33,8 @@ const CHOICES: usize = 65_536;
 /// What the inner call gives for no rule.
 const NO_PLACE: usize = 65_535;
 
+// Of the benchmark's own library, crates/bench: no other program may call them,
+// since the plan and the body are not examined.
 extern "C" {
     fn npp_answer_known(
         plan: *const u8,

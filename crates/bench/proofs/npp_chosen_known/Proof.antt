@@ -1,10 +1,10 @@
 -- By what was chosen.
 use mathlib.Core.Path.{ap, sym, _∙_}
 use Rattle.meaning.specs.Answers.{placeChosen}
-use Rattle.inner.specs.PlaceNumbers.{placeNumber}
+use Rattle.bench.specs.PlaceNumbers.{placeNumber}
 use borrow.Author.Needs.{needs}
-use Rattle.inner.proofs.npp_chosen_known.Statement.{statement}
-use Rattle.inner.proofs.npp_chosen_known.Tie as tie
+use Rattle.bench.proofs.npp_chosen_known.Statement.{statement}
+use Rattle.bench.proofs.npp_chosen_known.Tie as tie
 
 choose-requires : tie.Need-choose-requires
 choose-requires c κs = search needs

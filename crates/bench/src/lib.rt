@@ -8,7 +8,7 @@ ghost use Rattle.plan.specs.Layout.{planOf};
 ghost use Rattle.plan.specs.State.{soundOf};
 ghost use Rattle.number.specs.Answering.{Ready};
 ghost use Rattle.number.specs.Promises.{GivesAnswer};
-ghost use Rattle.inner.specs.PlaceNumbers.{placeNumber};
+ghost use Rattle.bench.specs.PlaceNumbers.{placeNumber};
 use meaning::Answered;
 use meaning::Chosen;
 
