@@ -1,0 +1,11 @@
+//! For cargo: the public calls' library, and that of the inner ones.
+
+#[path = "../rust/archive.rs"]
+mod archive;
+
+fn main() {
+    let calls = archive::of("capi", "NPP_LIBRARY");
+    let inner = archive::of("bench", "NPP_BENCH_LIBRARY");
+    println!("cargo::rustc-link-arg-bin=calls={}", calls.display());
+    println!("cargo::rustc-link-arg-bin=inner={}", inner.display());
+}
