@@ -14,14 +14,14 @@ use Rattle.meaning.specs.Rules.{Rule, chosenPlace, ruleAt, chosen}
 use Rattle.meaning.specs.Plan.{Plan}
 use Rattle.meaning.specs.Answer.{Answer, answer}
 use Rattle.meaning.specs.Reads.{Read, conditioned}
-use Rattle.meaning.specs.Calls.{Operation, openPlan, addSet, replaceSet, removeSet, addRule, changeRule, removeRule, Call, lacksBytes, refusal, putIn, refusalsFrom}
+use Rattle.meaning.specs.Calls.{Operation, openPlan, Call, lacksBytes, refusal, putIn, refusalsFrom}
 use Rattle.meaning.specs.Answers.{AnswersRead, refusalOfWritten, bytesWritten, placeChosen, answeredAs}
 use Rattle.meaning.specs.Examples.{Query, choice, answered, condition, nothing, shownRule, shownAnswer, shownRead, shownChoice, MEMORY, shown, Row, table, Holds}
 use Rattle.meaning.specs.declared.Answered.{Answered}
 use Rattle.meaning.specs.declared.Written.{Written}
 use Rattle.meaning.specs.declared.Chosen.{Chosen}
-use Rattle.meaning.proofs.Tests.{and-left, and-right}
-use Rattle.meaning.proofs.CallKinds.{isOpening}
+use Rattle.meaning.proofs.Tests.{is-true, and-left, and-right}
+use Rattle.meaning.proofs.CallKinds.{isOpening, Asks, opens, changes, asks, not-both}
 use Rattle.meaning.proofs.Examples.{marked-examples}
 use Rattle.plan.specs.State.{stateOf}
 use Rattle.changes.specs.Promise.{Chain}
@@ -92,9 +92,9 @@ opensWith (c ∷ cs) (n ∷ ns) = isOpening (c .operation) && isZero n
 opensFirst : Row → Bool
 opensFirst r = opensWith (r .calls) (r .numbers)
 
-opens : T (all opensFirst table)
+table-opens : T (all opensFirst table)
 unfolding opensFirst opensWith table
-opens = tt
+table-opens = tt
 
 head-zero : (x n : ℕ) (xs ns : List ℕ) → x ∷ xs ≡ n ∷ ns → T (isZero n) → x ≡ 0
 head-zero x n xs ns e t = let q : x ≡ n = cc in q ∙ eqb→eq n 0 t
@@ -114,13 +114,13 @@ opened-runs b cs numbers q result z e f m end ns h t =
 by-operation : (o : Operation) (b : List ℕ) (cs : List Call) (n : ℕ) (numbers : List ℕ) (q : Query) (result : List ℕ) → T (isOpening o && isZero n)
     → refusalsFrom (lacksBytes MEMORY) none (record { operation = o; body = b } ∷ cs) ≡ n ∷ numbers → shown q (record { operation = o; body = b } ∷ cs) ≡ result
     → (m end ns : List ℕ) → length m ≡ MEMORY → Chain m (record { operation = o; body = b } ∷ cs) ns end → (ns ≡ n ∷ numbers) × Asked q end result
-by-operation openPlan b cs n numbers q result t e f = opened-runs b cs (n ∷ numbers) q result (head-zero _ n _ numbers e t) e f
-by-operation addSet b cs n numbers q result t e f = absurd t
-by-operation replaceSet b cs n numbers q result t e f = absurd t
-by-operation removeSet b cs n numbers q result t e f = absurd t
-by-operation addRule b cs n numbers q result t e f = absurd t
-by-operation changeRule b cs n numbers q result t e f = absurd t
-by-operation removeRule b cs n numbers q result t e f = absurd t
+by-operation o b cs n numbers q result t e f = go (asks o) t e f
+  where
+    go : {o : Operation} → Asks o → T (isOpening o && isZero n) → refusalsFrom (lacksBytes MEMORY) none (record { operation = o; body = b } ∷ cs) ≡ n ∷ numbers
+        → shown q (record { operation = o; body = b } ∷ cs) ≡ result
+        → (m end ns : List ℕ) → length m ≡ MEMORY → Chain m (record { operation = o; body = b } ∷ cs) ns end → (ns ≡ n ∷ numbers) × Asked q end result
+    go opens t e f = opened-runs b cs (n ∷ numbers) q result (head-zero _ n _ numbers e t) e f
+    go {o} (changes c) t e f = not-both (c .other) (is-true (isOpening o) (and-left (isOpening o) (isZero n) t))
 
 by-calls : (cs : List Call) (numbers : List ℕ) (q : Query) (result : List ℕ) → T (opensWith cs numbers)
     → refusalsFrom (lacksBytes MEMORY) none cs ≡ numbers → shown q cs ≡ result
@@ -139,4 +139,4 @@ pub marked-runs : (r : Row) → List·Memᴰ r table → RunsAs r
 unfolding opensFirst
 marked-runs r m =
     let h = marked-examples r m in
-    record { runs = by-calls (r .calls) (r .numbers) (r .query) (r .result) (every-row table opens r m) (h .numbers) (h .result) }
+    record { runs = by-calls (r .calls) (r .numbers) (r .query) (r .result) (every-row table table-opens r m) (h .numbers) (h .result) }

@@ -10,11 +10,12 @@ use lib.ListN.{length, drop, length-append, length-drop}
 use lib.Dec.{T, ltb, nltb→le}
 use borrow.Author.Tests.{eqb-true}
 use Rattle.meaning.specs.Basics.{if_then_else_, isZero}
-use Rattle.meaning.specs.Refusals.{PLAN, Line, firstOf}
+use Rattle.meaning.specs.Refusals.{Line, firstOf}
 use Rattle.meaning.specs.Settings.{Rooms, roomsOf, bytesNeeded}
-use Rattle.meaning.specs.Plan.{Plan, roomsIn, fresh, withSlot, withRules}
-use Rattle.meaning.specs.Calls.{Operation, openPlan, addSet, replaceSet, removeSet, addRule, changeRule, removeRule, Call, bodyOf, openedRooms, openingLines, lacksBytes, linesOf, refusal, made, isAccepted, after, putInFrom, putIn, refusalsFrom}
+use Rattle.meaning.specs.Plan.{Plan, roomsIn, fresh}
+use Rattle.meaning.specs.Calls.{Operation, openPlan, Call, bodyOf, openedRooms, openingLines, lacksBytes, linesOf, refusal, made, isAccepted, after, putInFrom, putIn, refusalsFrom}
 use Rattle.meaning.proofs.Tests.{true-is, passed-at}
+use Rattle.meaning.proofs.CallKinds.{Asks, opens, changes, asks}
 use Rattle.meaning.proofs.Soundness.{Sound, SoundIf, accepted-passed, accepted-sound}
 use Rattle.plan.specs.Layout.{image, sizeOf, planOf}
 use Rattle.plan.specs.State.{soundOf, stateOf}
@@ -46,28 +47,19 @@ sound-if size (some p) h = h .is-sound
 
 -- WHAT AN ACCEPTED CALL MAKES
 
--- no call but an opening is accepted over no plan
-refused-none : {A : Type 0} → _≡_ {A = ℕ} PLAN 0 → A
-refused-none e = absurd (omega (arith, e))
-
--- it makes a plan that fits
+-- it makes a plan that fits: an opening by its own check, any other call over a plan that fits
 made-holds : (o : Operation) (size : ℕ) (s : Option Plan) (b : List ℕ) → HoldsIf size s → SoundIf (made o s b) → firstOf (linesOf o (lacksBytes size) s b) ≡ 0
     → (q : Plan) × (made o s b ≡ some q) × Holds size q
-unfolding openingLines fresh withSlot withRules
-made-holds openPlan size s b h k e =
-    (_, refl, record { is-sound = k; fits = nltb→le size (bytesNeeded (roomsOf (openedRooms b))) (passed-at 1 (openingLines (lacksBytes size) b) tt e) })
-made-holds addSet size none b h k e = refused-none e
-made-holds addSet size (some p) b h k e = (_, refl, record { is-sound = k; fits = h .fits })
-made-holds replaceSet size none b h k e = refused-none e
-made-holds replaceSet size (some p) b h k e = (_, refl, record { is-sound = k; fits = h .fits })
-made-holds removeSet size none b h k e = refused-none e
-made-holds removeSet size (some p) b h k e = (_, refl, record { is-sound = k; fits = h .fits })
-made-holds addRule size none b h k e = refused-none e
-made-holds addRule size (some p) b h k e = (_, refl, record { is-sound = k; fits = h .fits })
-made-holds changeRule size none b h k e = refused-none e
-made-holds changeRule size (some p) b h k e = (_, refl, record { is-sound = k; fits = h .fits })
-made-holds removeRule size none b h k e = refused-none e
-made-holds removeRule size (some p) b h k e = (_, refl, record { is-sound = k; fits = h .fits })
+unfolding openingLines fresh
+made-holds o size s b h k e = go (asks o) s h k e
+  where
+    go : {o : Operation} → Asks o → (s : Option Plan) → HoldsIf size s → SoundIf (made o s b) → firstOf (linesOf o (lacksBytes size) s b) ≡ 0
+        → (q : Plan) × (made o s b ≡ some q) × Holds size q
+    go opens s h k e =
+        (_, refl, record { is-sound = k; fits = nltb→le size (bytesNeeded (roomsOf (openedRooms b))) (passed-at 1 (openingLines (lacksBytes size) b) tt e) })
+    go (changes c) none h k e = absurd (omega (arith, e, ap firstOf (c .lines-are (lacksBytes size) none b)))
+    go (changes c) (some p) h k e =
+        (c .change b p, c .made-is (some p) b, record { is-sound = subst SoundIf (c .made-is (some p) b) k; fits = rw (c .rooms-stay b p) (h .fits) })
 
 -- THE MEMORY AFTER A CALL
 

@@ -14,13 +14,13 @@ use Rattle.meaning.specs.Refusals.{CUT, PLAN, IN-USE, Line, firstOf}
 use Rattle.meaning.specs.Settings.{Rooms, roomsOf}
 use Rattle.meaning.specs.Filters.{Filter, filterOf}
 use Rattle.meaning.specs.Rules.{Rule, filterIn, names, setNamed}
-use Rattle.meaning.specs.Plan.{Plan, held, referrers, fresh, withSlot, withRules, sound}
+use Rattle.meaning.specs.Plan.{Plan, held, referrers, fresh, sound}
 use Rattle.meaning.specs.Reads.{overRoom, Listed, listing, listed}
 use Rattle.meaning.specs.Calls.{Operation, openPlan, addSet, replaceSet, removeSet, addRule, changeRule, removeRule, Call, isCut, bodyOf, openedRooms, openedSettings, setNumber, openingLines, addSetLines, replaceSetLines, removeSetLines, addRuleLines, changeRuleLines, removeRuleLines, linesOf, refusal, made, isAccepted, after, putInFrom, putIn, refusalsFrom}
 use Rattle.meaning.specs.LookBack.{acceptedFrom, accepted, openingAfter, lastOpening, contentAfter, lastContent, setAfter, lastSet}
 use Rattle.meaning.specs.History.{rising, removal, PutIn, EveryList, FromOpening, EveryOpenedList, ListsExactly}
 use Rattle.meaning.proofs.Tests.{is-true, is-false, true-is, false-is, and-left, and-right, and-both, none-counted}
-use Rattle.meaning.proofs.CallKinds.{isOpening, plan-lines}
+use Rattle.meaning.proofs.CallKinds.{isOpening, Asks, opens, changes, asks, plan-lines}
 use Rattle.meaning.proofs.Soundness.{Sound, sound-of, SoundIf, accepted-passed, accepted-sound, names-held}
 use Rattle.meaning.proofs.ReadBack.{heldIn, setIn, ReadsBack, reads-back, empty-slots}
 use Rattle.meaning.proofs.Listings.{rising-listed, one-list, lists-named, distinct-filters}
@@ -80,18 +80,17 @@ record Opened (p : Plan) (o : Operation) (b : List ℕ) (before : Option (List �
 
 module _ (p : Plan) (b opening : List ℕ) (before : Option (List ℕ)) (e : before ≡ some opening) (r : p .rooms ≡ openedRooms opening)
     (s : p .settings ≡ openedSettings opening) where
-  kept : (q : Plan) (o : Operation) → openingAfter o b before ≡ before → q .rooms ≡ p .rooms → q .settings ≡ p .settings → Opened q o b before
-  kept q o a x y = record { opening = opening; opened = a ∙ e; rooms = x ∙ r; settings = y ∙ s }
-
   opened-after : (o : Operation) → (q : Plan) × (made o (some p) b ≡ some q) × Opened q o b before
-  unfolding fresh withSlot withRules
-  opened-after openPlan = (_, refl, record { opening = b; opened = refl; rooms = refl; settings = refl })
-  opened-after addSet = (_, refl, kept _ addSet refl refl refl)
-  opened-after replaceSet = (_, refl, kept _ replaceSet refl refl refl)
-  opened-after removeSet = (_, refl, kept _ removeSet refl refl refl)
-  opened-after addRule = (_, refl, kept _ addRule refl refl refl)
-  opened-after changeRule = (_, refl, kept _ changeRule refl refl refl)
-  opened-after removeRule = (_, refl, kept _ removeRule refl refl refl)
+  unfolding fresh
+  opened-after o = go (asks o)
+    where
+      go : {o : Operation} → Asks o → (q : Plan) × (made o (some p) b ≡ some q) × Opened q o b before
+      go opens = (_, refl, record { opening = b; opened = refl; rooms = refl; settings = refl })
+      go (changes c) = (
+        c .change b p,
+        c .made-is (some p) b,
+        record { opening = opening; opened = c .opening-stays b before ∙ e; rooms = c .rooms-stay b p ∙ r; settings = c .settings-stay b p ∙ s },
+      )
 
 -- an accepted call keeps the agreement
 accept : (lacks : List ℕ → Bool) (p : Plan) (past : List Call) (c : Call) → Agrees p past → refusal lacks (some p) c ≡ 0

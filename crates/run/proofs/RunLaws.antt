@@ -16,7 +16,7 @@ use Rattle.meaning.specs.Basics.{if_then_else_, isZero, word}
 use Rattle.meaning.specs.Refusals.{PLAN, firstOf}
 use Rattle.meaning.specs.Settings.{roomsOf, bytesNeeded}
 use Rattle.meaning.specs.Plan.{Plan}
-use Rattle.meaning.specs.Calls.{Operation, openPlan, addSet, replaceSet, removeSet, addRule, changeRule, removeRule, Call, OPEN-PLAN, isCall, bodyLength, bodyOf, openedRooms, openingLines, lacksBytes, linesOf, refusal, made, isAccepted, after, operationOf, callOf}
+use Rattle.meaning.specs.Calls.{Operation, openPlan, Call, OPEN-PLAN, isCall, bodyLength, bodyOf, openedRooms, openingLines, lacksBytes, linesOf, refusal, made, isAccepted, after, operationOf, callOf}
 use Rattle.meaning.specs.Records.{lacksProgramRoom}
 use Rattle.meaning.proofs.Tests.{true-is, is-false, false-is, or-left-false, or-right-false, passed-at}
 use Rattle.meaning.proofs.Soundness.{accepted-passed}
@@ -25,7 +25,7 @@ use Rattle.plan.specs.State.{soundOf, stateOf}
 use Rattle.plan.proofs.ImageLaws.{sound-memory, state-some, state-none}
 use Rattle.changes.specs.Promise.{memoryOf, memoryAfter, Provides, calls}
 use Rattle.changes.proofs.PromiseLaws.{kind-unsound}
-use Rattle.meaning.proofs.CallKinds.{isOpening, other-call}
+use Rattle.meaning.proofs.CallKinds.{isOpening, Asks, opens, changes, asks, not-both, other-call}
 use Rattle.changes.proofs.Chains.{after-call}
 use Rattle.run.specs.Runs.{RunProvides}
 
@@ -81,32 +81,25 @@ module _ (c : Call) (m : List ℕ) where
 same-lines : (o : Operation) (lacks other : List ℕ → Bool) (s : Option Plan) (b : List ℕ) → (isOpening o ≡ true → lacks (openedRooms b) ≡ other (openedRooms b))
     → linesOf o lacks s b ≡ linesOf o other s b
 unfolding openingLines
-same-lines openPlan lacks other s b h = rw (h refl)
-same-lines addSet lacks other s b h = refl
-same-lines replaceSet lacks other s b h = refl
-same-lines removeSet lacks other s b h = refl
-same-lines addRule lacks other s b h = refl
-same-lines changeRule lacks other s b h = refl
-same-lines removeRule lacks other s b h = refl
+same-lines o lacks other s b h = go (asks o) h
+  where
+    go : {o : Operation} → Asks o → (isOpening o ≡ true → lacks (openedRooms b) ≡ other (openedRooms b)) → linesOf o lacks s b ≡ linesOf o other s b
+    go opens h = rw (h refl)
+    go (changes c) h = c .lines-are lacks s b ∙ sym (c .lines-are other s b)
 
 same-number : (c : Call) (lacks other : List ℕ → Bool) (s : Option Plan) → (isOpening (c .operation) ≡ true → lacks (openedRooms (bodyOf c)) ≡ other (openedRooms (bodyOf c)))
     → refusal lacks s c ≡ refusal other s c
 unfolding refusal
 same-number c lacks other s h = rw (same-lines (c .operation) lacks other s (bodyOf c) h)
 
-not-both : {A : Type 0} {t : Bool} → t ≡ false → t ≡ true → A
-not-both e h = absurd (let z : _≡_ {A = ℕ} 0 1 = cc in omega arith)
-
 -- where an opening is accepted, it does not lack room
 opened-room : (o : Operation) (lacks : List ℕ → Bool) (s : Option Plan) (b : List ℕ) → firstOf (linesOf o lacks s b) ≡ 0 → isOpening o ≡ true → lacks (openedRooms b) ≡ false
 unfolding openingLines
-opened-room openPlan lacks s b e h = is-false (lacks (openedRooms b)) (passed-at 1 (openingLines lacks b) tt e)
-opened-room addSet lacks s b e h = not-both refl h
-opened-room replaceSet lacks s b e h = not-both refl h
-opened-room removeSet lacks s b e h = not-both refl h
-opened-room addRule lacks s b e h = not-both refl h
-opened-room changeRule lacks s b e h = not-both refl h
-opened-room removeRule lacks s b e h = not-both refl h
+opened-room o lacks s b e h = go (asks o) e h
+  where
+    go : {o : Operation} → Asks o → firstOf (linesOf o lacks s b) ≡ 0 → isOpening o ≡ true → lacks (openedRooms b) ≡ false
+    go opens e h = is-false (lacks (openedRooms b)) (passed-at 1 (openingLines lacks b) tt e)
+    go (changes c) e h = not-both (c .other) h
 
 -- the memory of a run has the bytes for every room of it
 run-room : (size : ℕ) (rooms : List ℕ) → RUN-BYTES ≤ size → lacksProgramRoom rooms ≡ false → lacksBytes size rooms ≡ false
