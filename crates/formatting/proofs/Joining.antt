@@ -17,7 +17,7 @@ use Rattle.meaning.specs.Services.{rnSet, valueToSend, join}
 use Rattle.meaning.proofs.Tests.{is-true}
 use Rattle.services.specs.declared.Served.{Served}
 use Rattle.services.specs.Stages.{stageOf, stageAfter, ServedAs}
-use Rattle.formatting.proofs.Values.{valueSent}
+use Rattle.formatting.specs.Tables.{servedOver}
 use Rattle.formatting.specs.Joins.{JoinsInto}
 
 -- WHICH VALUES
@@ -72,8 +72,8 @@ module _ (settings : Settings) (lookup : Lookup) (served : Served) (fas : List �
 
 -- the outgoing digits join the values as they are sent
 pub outgoing-is : (settings lookup digits cas : List ℕ) (prefix : ℕ) (served : Served) (fas : List ℕ)
-    → outgoing settings lookup digits cas prefix served fas ≡ join (valueSent settings lookup digits cas prefix served) (codesOf fas)
-unfolding outgoing valueSent
+    → outgoing settings lookup digits cas prefix served fas ≡ join (servedOver settings lookup served (valueFrom (settingsOf settings .country) prefix digits (casOf cas))) (codesOf fas)
+unfolding outgoing
 outgoing-is settings lookup digits cas prefix served fas =
     let value : ℕ → List ℕ = valueFrom (settingsOf settings .country) prefix digits (casOf cas) in
     sym (join-same _ _ (codesOf fas) (asked (settingsOf settings) (lookupOf lookup) served (codesOf fas) value))

@@ -9,11 +9,12 @@ use borrow.Rule.Slice.PartMut.{putMid, midOf}
 use Rattle.meaning.specs.Sizes.{SETTINGS-BYTES, LOOKUP-AT, LOOKUP-BYTES, VALUE-BYTES}
 use Rattle.meaning.specs.Basics.{part, writtenOver}
 use Rattle.meaning.specs.Actions.{codesOf}
+use Rattle.meaning.specs.Services.{valueToSend}
 use Rattle.services.specs.declared.Served.{Served}
 use Rattle.buffer.proofs.ListLaws.{part-part}
 use Rattle.blocks.proofs.OverLaws.{array-behind, length-over}
 use Rattle.formatting.specs.Sources.{SOURCE-BYTES, settingsIn, lookupIn, Formattable}
-use Rattle.formatting.specs.Tables.{Table, valueAt, conditionedValue, servedOver, valueMade}
+use Rattle.formatting.specs.Tables.{Table, valueAt, conditionedValue, valueMade}
 use Rattle.formatting.specs.Joins.{outgoingBy, JoinsInto}
 use Rattle.formatting.proofs.Places.{sourceOf, source-is, source-long, source-settings, source-part}
 use Rattle.formatting.proofs.Joining.{join-same, joins-as}
@@ -62,7 +63,7 @@ module _ {settings body starts counts : List ℕ} (f : Formattable settings body
 
   -- each value is the same in the source and in the body
   values-same : (cas : List ℕ) (served : Served) (v : ℕ) → valueMade (settingsIn source) source cas starts counts served v ≡ valueMade settings body cas starts counts served v
-  unfolding servedOver conditionedValue
+  unfolding valueToSend conditionedValue
   values-same cas served v = rw (settings-is, lookup-is, value-is v)
 
   pub joined-made : (cas : List ℕ) (served : Served) (fas : List ℕ) {out : List ℕ} {most r : ℕ} → JoinsInto (outgoingBy (settingsIn source) source cas starts counts served fas) most out r

@@ -14,15 +14,13 @@ use Rattle.meaning.specs.Basics.{if_then_else_, any, isZero, contains, part, di
 use Rattle.meaning.specs.Settings.{settingsOf}
 use Rattle.meaning.specs.Actions.{CC, LAST-CONDITIONED, RN, DELIMITER-B, CA, isCCDEF, casOf, codesOf}
 use Rattle.meaning.specs.Conditioning.{Stretch, stretchOf, digitsAt, valueFrom}
-use Rattle.meaning.specs.Services.{join}
+use Rattle.meaning.specs.Services.{valueToSend, join}
 use Rattle.meaning.specs.declared.Span.{Span}
 use Rattle.services.specs.declared.Served.{Served}
 use Rattle.conditioning.specs.Marks.{PLACES, Marks, MarksAll}
-use Rattle.formatting.specs.Values.{serviceValue}
 use Rattle.formatting.specs.Sources.{LAST-STRING, settingsIn, lookupIn, digitsIn, Formattable, Lies}
 use Rattle.formatting.specs.Tables.{Table, valueAt, Has, placeOf, sentAt, conditionedValue, servedOver, valueMade}
 use Rattle.formatting.specs.Joins.{outgoingBy}
-use Rattle.formatting.proofs.Values.{valueSent, sent-conditioned, sent-served}
 use Rattle.formatting.proofs.Places.{part-within, digits-long}
 use Rattle.formatting.proofs.Joining.{outgoing, join-same, outgoing-is}
 
@@ -90,13 +88,13 @@ pub record Serving (taken : ℕ → List ℕ) (served : Served) (source starts c
   pub values : (v : ℕ) → v < f → valueAt source starts counts v ≡ servedOver (settingsIn source) (lookupIn source) served taken v
 
 pub serving-none : (served : Served) {source starts counts : List ℕ} → Table source starts counts → Serving (valueAt source starts counts) served source starts counts RN
-unfolding servedOver
+unfolding valueToSend
 serving-none served t = record { table = t; values = λ v h. let few : v ≤ LAST-CONDITIONED = omega arith in rw (le-leb v LAST-CONDITIONED few) }
 
 module _ {taken : ℕ → List ℕ} {served : Served} {source starts counts : List ℕ} {f : ℕ} (g : Serving taken served source starts counts f) where
-  pub serving-more : LAST-CONDITIONED < f → f ≤ DELIMITER-B → (v : ℕ) → v ≡ f → (r : Span) → Lies (serviceValue (settingsIn source) (lookupIn source) served f) source r
+  pub serving-more : LAST-CONDITIONED < f → f ≤ DELIMITER-B → (v : ℕ) → v ≡ f → (r : Span) → Lies (servedOver (settingsIn source) (lookupIn source) served (λ v. []) f) source r
       → Serving taken served source (set starts v (r .start)) (set counts v (r .count)) (f + 1)
-  unfolding servedOver
+  unfolding valueToSend
   serving-more behind inside v v-is r lies =
       rw v-is (record { table = table-put (g .table) f inside r lies; values = λ u h. go u h (eqb u f) refl })
     where
@@ -112,18 +110,15 @@ module _ {taken : ℕ → List ℕ} {served : Served} {source starts counts : Li
   pub serving-all : DELIMITER-B + 1 ≤ f → Has (servedOver (settingsIn source) (lookupIn source) served taken) source starts counts
   serving-all h = record { table = g .table; values = λ v k. g .values v (omega arith) }
 
+served-same : (settings lookup : List ℕ) (served : Served) (u v : ℕ → List ℕ) (f : ℕ) → u f ≡ v f → servedOver settings lookup served u f ≡ servedOver settings lookup served v f
+unfolding valueToSend
+served-same settings lookup served u v f e = rw e
+
 -- over a table that has the values of conditioning
 pub has-made : (source cas starts counts : List ℕ) {starts' counts' starts'' counts'' : List ℕ} (served : Served) → Has (conditionedValue (settingsIn source) source cas starts counts) source starts' counts'
     → Has (servedOver (settingsIn source) (lookupIn source) served (valueAt source starts' counts')) source starts'' counts''
     → Has (valueMade (settingsIn source) source cas starts counts served) source starts'' counts''
-unfolding servedOver
-has-made source cas starts counts {starts'} {counts'} served a b =
-    record { table = b .table; values = λ f h. b .values f h ∙ go f h (leb f LAST-CONDITIONED) }
-  where
-    go : (f : ℕ) → f ≤ DELIMITER-B → (q : Bool) → (if q then valueAt source starts' counts' f else serviceValue (settingsIn source) (lookupIn source) served f)
-        ≡ (if q then conditionedValue (settingsIn source) source cas starts counts f else serviceValue (settingsIn source) (lookupIn source) served f)
-    go f h true = a .values f h
-    go f h false = refl
+has-made source cas starts counts served a b = record { table = b .table; values = λ f h. b .values f h ∙ served-same (settingsIn source) (lookupIn source) served _ _ f (a .values f h) }
 
 -- WHAT AN FA SENDS
 
@@ -143,24 +138,22 @@ module _ {source starts counts : List ℕ} (t : Table source starts counts) (f :
       go false = record { is = refl; count = refl; low = omega arith; few = omega arith }
 
 -- no value has a code above that of delimiter B
-no-value : (settings lookup : List ℕ) (served : Served) (f : ℕ) → DELIMITER-B < f → [] ≡ serviceValue settings lookup served f
-unfolding serviceValue
-no-value settings lookup served f h =
+pub no-value : (settings lookup : List ℕ) (served : Served) (taken : ℕ → List ℕ) (f : ℕ) → DELIMITER-B < f → [] ≡ servedOver settings lookup served taken f
+unfolding valueToSend
+no-value settings lookup served taken f h =
+    let behind : LAST-CONDITIONED < f = omega arith in
     let past : 6 ≤ f - RN = omega arith in
-    rw List·getD-eq-default
+    rw (lt-leb f LAST-CONDITIONED behind, List·getD-eq-default)
 
 -- so what a table sends that has the values of all FAs
 pub sent-made : (settings body cas starts counts : List ℕ) (served : Served) {source starts' counts' : List ℕ} → Has (valueMade settings body cas starts counts served) source starts' counts'
     → (fas : List ℕ) → join (sentAt source starts' counts') (codesOf fas) ≡ outgoingBy settings body cas starts counts served fas
-unfolding sentAt servedOver
+unfolding sentAt
 sent-made settings body cas starts counts served {source} {starts'} {counts'} m fas = join-same _ _ (codesOf fas) (λ f t. go f (leb f DELIMITER-B) refl)
   where
     go : (f : ℕ) (b : Bool) → leb f DELIMITER-B ≡ b → (if b then valueAt source starts' counts' f else []) ≡ valueMade settings body cas starts counts served f
     go f true e = m .values f (leb-true f DELIMITER-B e)
-    go f false e =
-        let h : DELIMITER-B < f = leb-false f DELIMITER-B e in
-        let past : LAST-CONDITIONED < f = omega arith in
-        no-value settings (lookupIn body) served f h ∙ rw (lt-leb f LAST-CONDITIONED past)
+    go f false e = no-value settings (lookupIn body) served _ f (leb-false f DELIMITER-B e)
 
 -- WHAT CONDITIONING MARKS
 
@@ -216,11 +209,6 @@ module _ (settings body cas : List ℕ) {starts counts : List ℕ} {prefix n : �
       go false = rw (digits-long body n (omega arith)) (marked-value body n (stretchOf v prefix n (casOf cas)) (getD starts v 0) (getD counts v 0) (m .marks v h))
 
   pub marked-outgoing : (served : Served) (fas : List ℕ) → outgoingBy settings body cas starts counts served fas ≡ outgoing settings (lookupIn body) (digitsIn n body) cas prefix served fas
-  unfolding servedOver
   marked-outgoing served fas =
-      join-same _ _ (codesOf fas) (λ f t. go f (codes-positive fas f t) (leb f LAST-CONDITIONED) refl) ∙ sym (outgoing-is settings (lookupIn body) (digitsIn n body) cas prefix served fas)
-    where
-      go : (f : ℕ) → 0 < f → (b : Bool) → leb f LAST-CONDITIONED ≡ b
-          → (if b then conditionedValue settings body cas starts counts f else serviceValue settings (lookupIn body) served f) ≡ valueSent settings (lookupIn body) (digitsIn n body) cas prefix served f
-      go f h true e = taken-is f h ∙ sent-conditioned settings (lookupIn body) (digitsIn n body) cas prefix served f (leb-true f LAST-CONDITIONED e)
-      go f h false e = sent-served settings (lookupIn body) (digitsIn n body) cas prefix served f (leb-false f LAST-CONDITIONED e)
+      join-same _ _ (codesOf fas) (λ f t. served-same settings (lookupIn body) served _ _ f (taken-is f (codes-positive fas f t)))
+      ∙ sym (outgoing-is settings (lookupIn body) (digitsIn n body) cas prefix served fas)

@@ -1,10 +1,11 @@
 -- Where values are taken from: the bytes of a number's body that have them and, behind these, the settings.
 use Prim.Native.Nat.{ℕ, _+_, _≤_}
 use mathlib.Core.Path.{_≡_}
-use mathlib.Core.List.{List}
+use mathlib.Core.Bool.{Bool}
+use mathlib.Core.List.{List, []}
 use lib.ListN.{length, getD}
 use Rattle.meaning.specs.Sizes.{DELIMITER-B-AT, SETTINGS-BYTES, DIALLED-DIGITS-AT, LOOKUP-AT, LOOKUP-BYTES, VALUE-BYTES, NUMBER-BYTES}
-use Rattle.meaning.specs.Basics.{part}
+use Rattle.meaning.specs.Basics.{if_then_else_, part, digitsOf}
 use Rattle.meaning.specs.declared.Span.{Span}
 use Rattle.conditioning.specs.Marks.{PLACES}
 
@@ -27,6 +28,10 @@ lookupIn source = part LOOKUP-AT LOOKUP-BYTES source
 -- the first n digits of the number, of either
 abbrev pub digitsIn : ℕ → List ℕ → List ℕ
 digitsIn n source = part DIALLED-DIGITS-AT n source
+
+-- the digits of a digit string where they are set
+abbrev pub digitsIf : Bool → List ℕ → List ℕ
+digitsIf set s = if set then digitsOf s else []
 
 -- the settings, a body, and a table of places within the body
 pub record Formattable (settings body starts counts : List ℕ) : Type 0 where

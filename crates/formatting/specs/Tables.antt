@@ -2,16 +2,17 @@
 use Prim.Native.Nat.{ℕ, _+_, _≤_}
 use mathlib.Core.Path.{_≡_}
 use mathlib.Core.Bool.{_&&_}
-use mathlib.Core.List.{List, []}
+use mathlib.Core.List.{List, [], _∷_}
 use lib.ListN.{length, getD}
 use lib.Dec.{leb, eqb}
 use Rattle.meaning.specs.Basics.{if_then_else_, any, part}
-use Rattle.meaning.specs.Settings.{settingsOf}
-use Rattle.meaning.specs.Actions.{CC, LAST-CONDITIONED, DELIMITER-B, isCCDEF, casOf}
+use Rattle.meaning.specs.Settings.{settingsOf, lookupOf}
+use Rattle.meaning.specs.Actions.{CC, RN, DELIMITER-B, isCCDEF, casOf}
+use Rattle.meaning.specs.Services.{Stage, valueToSend}
 use Rattle.meaning.specs.declared.Span.{Span}
 use Rattle.services.specs.declared.Served.{Served}
+use Rattle.services.specs.Stages.{stageOf}
 use Rattle.conditioning.specs.Marks.{PLACES}
-use Rattle.formatting.specs.Values.{serviceValue}
 use Rattle.formatting.specs.Sources.{SOURCE-BYTES, LAST-STRING, lookupIn}
 
 -- each place has room behind it for the two blocks that a value may take
@@ -46,9 +47,13 @@ unfoldable pub conditionedValue : List ℕ → List ℕ → List ℕ → List �
 conditionedValue settings source cas starts counts v =
     if eqb v CC && any isCCDEF (casOf cas) then settingsOf settings .country else valueAt source starts counts v
 
--- the values of the service actions and the delimiters are those behind the last that conditioning sets
-unfoldable pub servedOver : List ℕ → List ℕ → Served → (ℕ → List ℕ) → ℕ → List ℕ
-servedOver settings lookup served taken f = if leb f LAST-CONDITIONED then taken f else serviceValue settings lookup served f
+-- the stage by which an FA's value is asked for: RN is set where an FA asks for it
+abbrev pub stageAsked : List ℕ → List ℕ → Served → Stage
+stageAsked settings lookup served = stageOf (settingsOf settings) (lookupOf lookup) (RN ∷ []) served
+
+-- document 01's value of each FA, by the values that conditioning took
+abbrev pub servedOver : List ℕ → List ℕ → Served → (ℕ → List ℕ) → ℕ → List ℕ
+servedOver settings lookup served taken = valueToSend (settingsOf settings) taken (stageAsked settings lookup served)
 
 -- so the value of each FA
 abbrev pub valueMade : List ℕ → List ℕ → List ℕ → List ℕ → List ℕ → Served → ℕ → List ℕ

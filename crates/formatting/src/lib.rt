@@ -32,17 +32,18 @@ use meaning::sizes::SETTINGS_BYTES;
 use meaning::sizes::VALUE_BYTES;
 use services::Served;
 ghost use mathlib.Core.Path.{_≡_};
+ghost use mathlib.Core.List.{[], _∷_};
 ghost use Prim.Native.Nat.{_+_, _≤_, _<_};
 ghost use lib.ListN.{length, take};
 ghost use Rattle.meaning.specs.Sizes.{SETTINGS-BYTES};
 ghost use Rattle.meaning.specs.Basics.{part, digitsOf};
-ghost use Rattle.meaning.specs.Settings.{settingsOf};
-ghost use Rattle.meaning.specs.Actions.{LAST-CONDITIONED, casOf, codesOf};
+ghost use Rattle.meaning.specs.Settings.{settingsOf, lookupOf};
+ghost use Rattle.meaning.specs.Actions.{LAST-CONDITIONED, RN, casOf, codesOf};
 ghost use Rattle.meaning.specs.Conditioning.{valueFrom};
 ghost use Rattle.meaning.specs.Services.{join};
-ghost use Rattle.formatting.specs.Values.{digitsIf, rnOf, spOf, serviceValue};
 ghost use Rattle.conditioning.specs.Marks.{PLACES};
-ghost use Rattle.formatting.specs.Sources.{SOURCE-BYTES, LAST-STRING, settingsIn, lookupIn, Formattable, Held, Lies};
+ghost use Rattle.services.specs.Stages.{rnOf, spOf};
+ghost use Rattle.formatting.specs.Sources.{SOURCE-BYTES, LAST-STRING, settingsIn, lookupIn, digitsIf, Formattable, Held, Lies};
 ghost use Rattle.formatting.specs.Tables.{Table, valueAt, Has, placeOf, sentAt, conditionedValue, servedOver, valueMade};
 ghost use Rattle.formatting.specs.Joins.{conditioned, conditionedCodes, outgoingBy, Conditionable, Writes, JoinsInto};
 
@@ -102,7 +103,7 @@ fn string_if(set: bool, source: &[u8], at: usize, width: usize) -> Span
 // RN where CDPNNP was carried out: the entity for kind 2, DFLTRN for kind 3.
 fn routing_number(source: &[u8], ported: bool) -> Span
     requires { ⌜ length (now source) ≡ SOURCE-BYTES ⌝ }
-    ensures { λ r. ⌜ Lies (rnOf (settingsIn (now (source .entry))) (lookupIn (now (source .entry))) ported) (now (source .entry)) r ⌝ }
+    ensures { λ r. ⌜ Lies (rnOf (settingsOf (settingsIn (now (source .entry)))) (lookupOf (lookupIn (now (source .entry)))) (RN ∷ []) ported) (now (source .entry)) r ⌝ }
 {
     let kind = source[LOOKUP_AT];
     if kind == 2 {
@@ -117,7 +118,7 @@ fn routing_number(source: &[u8], ported: bool) -> Span
 // SP where CDPNNP was carried out: the entity for kind 3.
 fn service_provider(source: &[u8], ported: bool) -> Span
     requires { ⌜ length (now source) ≡ SOURCE-BYTES ⌝ }
-    ensures { λ r. ⌜ Lies (spOf (lookupIn (now (source .entry))) ported) (now (source .entry)) r ⌝ }
+    ensures { λ r. ⌜ Lies (spOf (lookupOf (lookupIn (now (source .entry)))) ported) (now (source .entry)) r ⌝ }
 {
     if source[LOOKUP_AT] == 3 {
         return string_if(ported, source, ENTITY, 15);
@@ -128,7 +129,7 @@ fn service_provider(source: &[u8], ported: bool) -> Span
 // The value of a formatting action behind those that conditioning sets.
 fn service_value(source: &[u8], served: Served, f: u8) -> Span
     requires { ⌜ (length (now source) ≡ SOURCE-BYTES) × (LAST-CONDITIONED < f) ⌝ }
-    ensures { λ r. ⌜ Lies (serviceValue (settingsIn (now (source .entry))) (lookupIn (now (source .entry))) served f) (now (source .entry)) r ⌝ }
+    ensures { λ r. ⌜ Lies (servedOver (settingsIn (now (source .entry))) (lookupIn (now (source .entry))) served (λ _. []) f) (now (source .entry)) r ⌝ }
 {
     match f {
         RN => routing_number(source, served.ported),

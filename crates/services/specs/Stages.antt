@@ -13,14 +13,21 @@ use Rattle.meaning.specs.Services.{Stage, atStart, rnSet, serve, eightPlaces}
 use Rattle.services.specs.declared.Served.{Served}
 use Rattle.services.specs.declared.Effect.{Effect}
 
+-- RN and SP where CDPNNP was carried out
+abbrev pub rnOf : Settings → Lookup → List ℕ → Bool → List ℕ
+rnOf settings lookup fas ported = if ported then rnSet settings lookup fas atStart else []
+
+abbrev pub spOf : Lookup → Bool → List ℕ
+spOf lookup ported = if ported && eqb (lookup .kind) 3 then lookup .entity else []
+
 -- the stage: a value is set where its action was carried out, to what the settings and the lookup have
 unfoldable pub stageOf : Settings → Lookup → List ℕ → Served → Stage
 stageOf settings lookup fas s =
     record {
       response = s .response;
       done = take (s .count) (s .actions);
-      rn = (if s .ported then rnSet settings lookup fas atStart else []);
-      sp = (if s .ported && eqb (lookup .kind) 3 then lookup .entity else []);
+      rn = rnOf settings lookup fas (s .ported);
+      sp = spOf lookup (s .ported);
       asd = (if s .asd then lookup .asd else []);
       grn = (if s .grn then lookup .grn else []);
       withheld = s .withheld;
