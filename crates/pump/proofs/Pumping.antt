@@ -8,7 +8,7 @@ use native.Mathlib.Omega.{arith}
 use lib.ListN.{length, take, drop, length-append, length-drop, drop-of-length-le}
 use lib.Seq.{take-at, drop-at, take-add, drop-drop, drop-append-le, length-take-le}
 use borrow.Rule.Slice.PartMut.{midOf, putMid, postOf, post-is}
-use Rattle.meaning.specs.Basics.{writtenOver}
+use Rattle.meaning.specs.Basics.{if_then_else_, writtenOver}
 use Rattle.buffer.proofs.ListLaws.{rest-is}
 use Rattle.blocks.proofs.OverLaws.{length-over}
 use Rattle.run.specs.Runs.{InRun}
@@ -59,6 +59,18 @@ none-before e = rw (zero-add (e .place))
 
 pub both-before : (a b : ℕ) (e : RunEnd) → runEndBehind (a + b) e ≡ runEndBehind a (runEndBehind b e)
 both-before a b e = rw (add-assoc a b (e .place))
+
+-- no step could be taken: there is no room for a line, or no whole record is left
+abbrev stopped : Bool → Stepped
+stopped full = if full then Full else Wants
+
+stopped-none : (full : Bool) → writtenBy (stopped full) ≡ 0
+stopped-none true = refl
+stopped-none false = refl
+
+stopped-keeps : (full : Bool) {m input output after written : List ℕ} {lines : ℕ} {ended : Bool} → StepPromise m lines ended input output after written (stopped full) → after ≡ m
+stopped-keeps true p = full-keeps p
+stopped-keeps false p = wants-keeps p
 
 -- THE LOOP
 
@@ -167,49 +179,27 @@ module _ {m : List ℕ} {run : Run} {ended : Bool} {input out now : List ℕ} {s
             (g .extends rest (take (l .written) lent ++ texts) (runEndBehind (l .taken) e) o (next (cut rest o) p next-left));
       })
 
-  -- nothing was written, and the memory is as it was: no whole record is left, or there is no room for a line
-  pub going-wants : {after lent : List ℕ}
-      → StepPromise now (so .lines) ended (take (length input - at) (drop at input)) (midOf end (length left - end) left) after lent Wants
-      → PumpPromise m run ended input out after (putMid end (length left - end) left lent) (pumpedAs at end so false false 0)
-  going-wants {after} {lent} q =
+  -- nothing was written, and the memory is as it was
+  going-stops : (full : Bool) {after lent : List ℕ}
+      → StepPromise now (so .lines) ended (take (length input - at) (drop at input)) (midOf end (length left - end) left) after lent (stopped full)
+      → PumpPromise m run ended input out after (putMid end (length left - end) left lent) (pumpedAs at end so full false 0)
+  going-stops full {after} {lent} q =
       let p = step q in
-      let kept : after ≡ now = wants-keeps p in
-      rw (given-back left lent end here, kept)
+      let still = ap (turn (houseOf now) (so .lines) ended (drop at input)) room-left ∙ sym (p .turn-is) in
+      rw (given-back left lent end here, stopped-keeps full p)
       (record {
-        goes-on = λ o rest texts e l r. rw (same-front refl q) (g .extends rest texts e l r);
+        goes-on = λ o rest texts e l r. rw (same-front (stopped-none full) q) (g .extends rest texts e l r);
         ends = λ o. absurd (false≢true o);
         none-yet = λ o. refl;
         idle = λ o. g .idle;
-        behind = same-behind refl q;
+        behind = same-behind (stopped-none full) q;
         same-size = back-long q ∙ g .long;
         memory-size = g .size;
         inside = g .inside;
         room = g .room;
         in-run = g .in-run;
-        stops-wanting = λ o f. ap (turn (houseOf now) (so .lines) ended (drop at input)) room-left ∙ sym (p .turn-is);
-        stops-full = λ f. absurd (false≢true f);
-      })
-
-  pub going-full : {after lent : List ℕ}
-      → StepPromise now (so .lines) ended (take (length input - at) (drop at input)) (midOf end (length left - end) left) after lent Full
-      → PumpPromise m run ended input out after (putMid end (length left - end) left lent) (pumpedAs at end so true false 0)
-  going-full {after} {lent} q =
-      let p = step q in
-      let kept : after ≡ now = full-keeps p in
-      rw (given-back left lent end here, kept)
-      (record {
-        goes-on = λ o rest texts e l r. rw (same-front refl q) (g .extends rest texts e l r);
-        ends = λ o. absurd (false≢true o);
-        none-yet = λ o. refl;
-        idle = λ o. g .idle;
-        behind = same-behind refl q;
-        same-size = back-long q ∙ g .long;
-        memory-size = g .size;
-        inside = g .inside;
-        room = g .room;
-        in-run = g .in-run;
-        stops-wanting = λ o f. absurd (true≢false f);
-        stops-full = λ f. ap (turn (houseOf now) (so .lines) ended (drop at input)) room-left ∙ sym (p .turn-is);
+        stops-wanting = λ o f. rw f at still;
+        stops-full = λ f. rw f at still;
       })
 
   -- reading has ended, with the last line
@@ -264,10 +254,10 @@ module _ {m : List ℕ} {run : Run} {ended : Bool} {input out now : List ℕ} {s
     line-less e = less-room (told e)
 
     pub wants-stops : r ≡ Wants → PumpPromise m run ended input out after (putMid end (length left - end) left lent) (pumpedAs at end so false false 0)
-    wants-stops e = going-wants (told e)
+    wants-stops e = going-stops false (told e)
 
     pub full-stops : r ≡ Full → PumpPromise m run ended input out after (putMid end (length left - end) left lent) (pumpedAs at end so true false 0)
-    full-stops e = going-full (told e)
+    full-stops e = going-stops true (told e)
 
     pub end-stops : {l : Last} → r ≡ Ends l
         → PumpPromise m run ended input out after (putMid end (length left - end) left lent) (pumpedAs at (end + l .written) so false true (l .refusal))
