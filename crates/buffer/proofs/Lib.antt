@@ -1,6 +1,5 @@
 pub mod ListLaws
 pub mod ZeroLaws
-pub mod WordLaws
 pub mod Moves
 pub mod SlotLaws
 pub mod Passing

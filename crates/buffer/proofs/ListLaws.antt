@@ -5,10 +5,8 @@ use mathlib.Core.List.{List, [], _∷_, _++_, map, map-append}
 use mathlib.Core.Option.{none, some}
 use native.Mathlib.Nat.{not-suc-le-zero, le-of-suc-le-suc, sub-zero}
 use native.Mathlib.Omega.{arith}
-use mathlib.Core.Bool.{Bool, _&&_}
 use lib.Seq.{take-nil, take-take, take-all}
 use lib.ListN.{length, take, drop, getD, set, getElem?, length-append, length-take, length-drop}
-use Rattle.meaning.specs.Basics.{all}
 use Rattle.buffer.specs.Slots.{insertAt, removeAt}
 
 module _ {A : Type 0} where
@@ -67,7 +65,3 @@ module _ {A B : Type 0} (f : A → B) where
   pub map-remove : (i : ℕ) (xs : List A) → map f (removeAt i xs) ≡ removeAt i (map f xs)
   map-remove i xs =
       map-append f (take i xs) (drop (suc i) xs) ∙ ap₂ (λ (a b : List B). a ++ b) (map-take i xs) (map-drop (suc i) xs)
-
-  pub all-map : (p : B → Bool) (xs : List A) → all p (map f xs) ≡ all (λ (x : A). p (f x)) xs
-  all-map p [] = refl
-  all-map p (x ∷ xs) = ap (λ (b : Bool). p (f x) && b) (all-map p xs)

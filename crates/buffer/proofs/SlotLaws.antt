@@ -5,8 +5,8 @@ use mathlib.Core.List.{List, [], _∷_, _++_, append-assoc, append-nil}
 use native.Mathlib.Nat.{mul-suc, mul-zero, mul-add, mul-le-mul-left, not-suc-le-zero, le-of-suc-le-suc, sub-zero}
 use native.Mathlib.Numerals.{add-one}
 use native.Mathlib.Omega.{arith}
-use lib.ListN.{length, take, drop, getD, set, length-append, length-drop, take-append-drop, drop-of-length-le}
-use lib.Seq.{take-at, drop-at, take-add, drop-drop, take-take, take-append-le, length-take-le, set-split}
+use lib.ListN.{length, take, drop, getD, set, length-append, length-drop, take-append-drop}
+use lib.Seq.{take-at, drop-at, take-add, drop-drop, take-take, length-take-le, set-split}
 use borrow.Rule.Slice.PartMut.{putMid, midOf, post-is, mid-len}
 use Rattle.buffer.specs.Slots.{slots, flat, Wide, withSlots, insertAt, removeAt}
 use Rattle.buffer.proofs.ListLaws.{drop-take}
@@ -96,51 +96,6 @@ slots-part w (suc n) k m h =
     let d : drop w (take k m) ≡ take (k - w) (drop w m) = drop-take w k m (omega arith) in
     rw (take-take w k m (omega arith), d, slots-part w n (k - w) (drop w m) (omega arith))
 
-pub slots-behind : (w n : ℕ) (m r : List ℕ) → w * n ≤ length m → slots w n (m ++ r) ≡ slots w n m
-slots-behind w n m r h =
-    sym (slots-part w n (w * n) (m ++ r) (omega arith)) ∙ rw (take-append-le (w * n) m r h) (slots-part w n (w * n) m (omega arith))
-
--- WIDTHS
-
-pub wide-append : (w : ℕ) (a b : List (List ℕ)) → Wide w a → Wide w b → Wide w (a ++ b)
-wide-append w [] b h k = k
-wide-append w (s ∷ a) b h k = (h .0, wide-append w a b (h .1) k)
-
-pub wide-take : (w i : ℕ) (ss : List (List ℕ)) → Wide w ss → Wide w (take i ss)
-wide-take w zero ss h = tt
-wide-take w (suc i) [] h = tt
-wide-take w (suc i) (s ∷ ss) h = (h .0, wide-take w i ss (h .1))
-
-pub wide-drop : (w i : ℕ) (ss : List (List ℕ)) → Wide w ss → Wide w (drop i ss)
-wide-drop w zero ss h = h
-wide-drop w (suc i) [] h = tt
-wide-drop w (suc i) (s ∷ ss) h = wide-drop w i ss (h .1)
-
-pub wide-set : (w i : ℕ) (x : List ℕ) (ss : List (List ℕ)) → length x ≡ w → Wide w ss → Wide w (set ss i x)
-wide-set w i x [] e h = tt
-wide-set w zero x (s ∷ ss) e h = (e, h .1)
-wide-set w (suc i) x (s ∷ ss) e h = (h .0, wide-set w i x ss e (h .1))
-
-pub wide-insert : (w i : ℕ) (x : List ℕ) (ss : List (List ℕ)) → length x ≡ w → Wide w ss → Wide w (insertAt i x ss)
-wide-insert w i x ss e h = wide-append w (take i ss) (x ∷ drop i ss) (wide-take w i ss h) (e, wide-drop w i ss h)
-
-pub wide-remove : (w i : ℕ) (ss : List (List ℕ)) → Wide w ss → Wide w (removeAt i ss)
-wide-remove w i ss h = wide-append w (take i ss) (drop (suc i) ss) (wide-take w i ss h) (wide-drop w (suc i) ss h)
-
--- SLOTS THAT WERE WRITTEN
-
-module _ (w n : ℕ) (ss : List (List ℕ)) (m : List ℕ) (wide : Wide w ss) (many : length ss ≡ n) where
-  pub slots-with : slots w n (withSlots w n ss m) ≡ ss
-  slots-with = rw (← many) (slots-flat w ss (drop (w * length ss) m) wide)
-
-  pub drop-with : drop (w * n) (withSlots w n ss m) ≡ drop (w * n) m
-  drop-with = drop-at (flat ss) (drop (w * n) m) (w * n) (length-flat w ss wide ∙ ap (λ (k : ℕ). w * k) many)
-
-  pub length-with : w * n ≤ length m → length (withSlots w n ss m) ≡ length m
-  length-with h =
-      let e : length (flat ss) ≡ w * n = length-flat w ss wide ∙ ap (λ (k : ℕ). w * k) many in
-      rw (length-append, e, length-drop) (omega arith)
-
 -- AN EDIT OF SLOTS AS BYTES
 
 module _ (w i n : ℕ) (m : List ℕ) where
@@ -171,26 +126,10 @@ set-bytes w i n m x h =
     sym (take-append-drop (w * (n - suc i)) (drop (w * suc i) m)) ∙ rw (from-bytes w (suc i) n m h, drop-drop, times-rest w (suc i) n h) in
     rw (f, t, first-bytes w i n m (omega arith), append-assoc, append-assoc)
 
--- one slot put, seen over any count that holds it
-pub set-any : (w i n k : ℕ) (m x : List ℕ) → i < n → i < k
-    → withSlots w n (set (slots w n m) i x) m ≡ withSlots w k (set (slots w k m) i x) m
-set-any w i n k m x h g = set-bytes w i n m x h ∙ sym (set-bytes w i k m x g)
-
 -- A PART THAT WAS LENT AND CAME BACK
 
 came-back : (a e : ℕ) (m ys : List ℕ) → a ≤ e → putMid a (e - a) m ys ≡ take a m ++ (ys ++ drop e m)
 came-back a e m ys h = ap (λ (t : List ℕ). take a m ++ (ys ++ t)) (post-is a e m h)
-
--- slot i lent, and x copied over it
-pub set-part : (w i : ℕ) (m x ys : List ℕ) → w * (i + 1) ≤ length m → length x ≡ w
-    → ys ≡ x ++ drop (length x) (midOf (w * i) (w * i + w - w * i) m)
-    → putMid (w * i) (w * i + w - w * i) m ys ≡ withSlots w (i + 1) (set (slots w (i + 1) m) i x) m
-set-part w i m x ys h l q =
-    let t : w * (i + 1) ≡ w * i + w = times-more w i in
-    let k : length (midOf (w * i) (w * i + w - w * i) m) ≤ length x = rw (mid-len (w * i) (w * i + w) m (omega arith)) (omega arith) in
-    let y : ys ≡ x = q ∙ rw (drop-of-length-le (midOf (w * i) (w * i + w - w * i) m) k, append-nil) in
-    let n : w * suc i ≡ w * i + w = mul-suc w i in
-    came-back (w * i) (w * i + w) m ys (omega arith) ∙ rw (y, ← n) (sym (set-bytes w i (i + 1) m x (omega arith)))
 
 -- the slots from i to n lent with the slot behind them, and x pushed before them
 pub insert-part : (w i n : ℕ) (m x ys : List ℕ) → i ≤ n → w * (n + 1) ≤ length m → length x ≡ w

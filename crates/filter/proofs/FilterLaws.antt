@@ -1,5 +1,5 @@
--- A filter's range, fit and weight, by what was read of its bytes.
-use Prim.Native.Nat.{ℕ, zero, suc, _+_, _*_, _-_, _≤_, _<_}
+-- A filter's range, and whether digits begin with its prefix, by what was read of its bytes.
+use Prim.Native.Nat.{ℕ, _+_, _-_, _≤_, _<_}
 use mathlib.Core.Path.{_≡_, refl, sym, ap, _∙_}
 use mathlib.Core.List.{List, [], _∷_}
 use mathlib.Core.Bool.{Bool, true, false, _&&_, _||_}
@@ -13,8 +13,7 @@ use borrow.Author.Tests.{eq-eqb, ne-eqb, le-leb, lt-leb}
 use Rattle.meaning.specs.Sizes.{CLASS-AT, PREFIX-AT, PREFIX-DIGITS-AT, LENGTH-AT, FILTER-BYTES}
 use Rattle.meaning.specs.Basics.{if_then_else_, all, allOf, within, isZero, isDigit, digitsOf, digitsInRange, beginsWith}
 use Rattle.meaning.specs.Settings.{isClass}
-use Rattle.meaning.specs.Filters.{Filter, filterOf, filterInRange, lengthFits, fitsNumber, stated, rank}
-use Rattle.meaning.specs.Rules.{weight}
+use Rattle.meaning.specs.Filters.{filterOf, filterInRange}
 use Rattle.meaning.specs.Answers.{classOf, classNumbered}
 use Rattle.meaning.specs.declared.Class.{Class}
 use Rattle.meaning.specs.declared.ClassOf.{ClassOf}
@@ -134,56 +133,3 @@ module _ (ps ds : List ℕ) (i : ℕ) (short : length ps ≤ length ds) (so-far 
 
   pub begins-ends : length ps ≤ i → beginsWith ps ds ≡ true
   begins-ends h = so-far ∙ rw (drop-of-length-le ps)
-
--- FIT
-
-lengthFits-stated : (l n : ℕ) → (l ≡ 0 → ⊥) → lengthFits l n ≡ eqb l n
-lengthFits-stated zero n h = absurd (h refl)
-lengthFits-stated (suc l) n h = refl
-
-pub fits-class : (s ds : List ℕ) (c : ℕ) → (getD s CLASS-AT 0 ≡ c → ⊥) → fitsNumber (filterOf s) c ds ≡ false
-unfolding fitsNumber filterOf
-fits-class s ds c h = rw (ne-eqb (getD s CLASS-AT 0) c h)
-
--- a filter of the number's class: p is its prefix's length as read, b whether the digits begin with the part from PREFIX-DIGITS-AT to PREFIX-DIGITS-AT + p
-module _ (s ds : List ℕ) (c p : ℕ) (b : Bool) (bytes : FilterBytes s) (same : getD s CLASS-AT 0 ≡ c) (p-is : p ≡ getD s PREFIX-AT 0)
-    (b-is : b ≡ beginsWith (take (p + PREFIX-DIGITS-AT - PREFIX-DIGITS-AT) (drop PREFIX-DIGITS-AT s)) ds) where
-  fits-same : fitsNumber (filterOf s) c ds ≡ (b && lengthFits (getD s LENGTH-AT 0) (length ds))
-  unfolding fitsNumber filterOf
-  fits-same =
-      let k : p + PREFIX-DIGITS-AT - PREFIX-DIGITS-AT ≡ getD s PREFIX-AT 0 = omega arith in
-      let e : beginsWith (filterOf s .prefix) ds ≡ b = ap (λ (ps : List ℕ). beginsWith ps ds) (prefix-is s bytes ∙ ap (λ (n : ℕ). take n (drop PREFIX-DIGITS-AT s)) (sym k)) ∙ sym b-is in
-      rw (eq-eqb (getD s CLASS-AT 0) c same) (ap (λ (t : Bool). t && lengthFits (getD s LENGTH-AT 0) (length ds)) e)
-
-  pub fits-no : b ≡ false → fitsNumber (filterOf s) c ds ≡ false
-  fits-no e = fits-same ∙ rw e
-
-  pub fits-any : b ≡ true → (l : ℕ) → l ≡ getD s LENGTH-AT 0 → l ≡ 0 → fitsNumber (filterOf s) c ds ≡ true
-  fits-any e l l-is z = fits-same ∙ rw (e, ← l-is, z)
-
-  pub fits-stated : b ≡ true → (l : ℕ) → l ≡ getD s LENGTH-AT 0 → (l ≡ 0 → ⊥) → fitsNumber (filterOf s) c ds ≡ eqb l (length ds)
-  fits-stated e l l-is z = fits-same ∙ rw (e, ← l-is) (lengthFits-stated l (length ds) z)
-
--- WEIGHT
-
-stated-some : (l : ℕ) → (l ≡ 0 → ⊥) → stated l ≡ 1
-stated-some zero h = absurd (h refl)
-stated-some (suc l) h = refl
-
-pub weight-none : (f : Filter) (ds : List ℕ) (c : ℕ) (b : Bool) → b ≡ fitsNumber f c ds → b ≡ false → weight c ds f ≡ 0
-unfolding weight
-weight-none f ds c b b-is e = rw (← b-is, e)
-
-module _ (s ds : List ℕ) (c p : ℕ) (b : Bool) (b-is : b ≡ fitsNumber (filterOf s) c ds) (e : b ≡ true) (bytes : FilterBytes s) (p-is : p ≡ getD s PREFIX-AT 0) where
-  weight-fits : weight c ds (filterOf s) ≡ 2 * p + stated (getD s LENGTH-AT 0) + 1
-  unfolding weight rank filterOf
-  weight-fits =
-      let h : getD s PREFIX-AT 0 ≤ length (drop PREFIX-DIGITS-AT s) = simp length-drop (omega (arith, bytes .whole, bytes .prefix)) in
-      let l : length (filterOf s .prefix) ≡ p = ap length (prefix-is s bytes) ∙ length-take-le (getD s PREFIX-AT 0) (drop PREFIX-DIGITS-AT s) h ∙ sym p-is in
-      rw (← b-is, e) (ap (λ (n : ℕ). 2 * n + stated (getD s LENGTH-AT 0) + 1) l)
-
-  pub weight-any : getD s LENGTH-AT 0 ≡ 0 → weight c ds (filterOf s) ≡ 2 * p + 1
-  weight-any z = weight-fits ∙ rw z (omega arith)
-
-  pub weight-stated : (getD s LENGTH-AT 0 ≡ 0 → ⊥) → weight c ds (filterOf s) ≡ 2 * p + 2
-  weight-stated z = weight-fits ∙ rw (stated-some (getD s LENGTH-AT 0) z) (omega arith)

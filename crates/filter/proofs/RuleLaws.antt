@@ -1,28 +1,25 @@
--- The rules of an area of slots: the one at a place, what is left of them in a walk, and what an edit of the slots makes of them.
+-- The rules of an area of slots: the one at a place, and what is left of them in a walk.
 use Prim.Native.Nat.{ℕ, suc, _+_, _*_, _-_, _≤_, _<_}
-use mathlib.Core.Path.{_≡_, sym, ap, _∙_}
-use mathlib.Core.List.{List, [], _∷_, _++_, map}
+use mathlib.Core.Path.{_≡_, ap, _∙_}
+use mathlib.Core.List.{List, [], _∷_, map}
 use mathlib.Core.Option.{Option, none, some}
 use mathlib.Core.Bool.{Bool, true, false}
 use native.Mathlib.Nat.{sub-zero}
-use native.Mathlib.Numerals.{add-one}
 use native.Mathlib.Omega.{arith}
-use lib.ListN.{length, take, drop, getD, set, getElem?, length-map, List·getD-map, length-drop, length-set, length-append}
-use lib.Seq.{length-take-le, getD-take, getD-drop, take-at}
+use lib.ListN.{length, take, drop, getD, set, getElem?, length-map, List·getD-map, length-drop}
+use lib.Seq.{length-take-le, getD-take, getD-drop}
 use lib.Dec.{T, ltb, lit<, leb→le}
 use borrow.Author.Tests.{lt-ltb, le-ltb}
 use Rattle.meaning.specs.Sizes.{PREFIX-AT, FILTER-BYTES, RULE-WIDTH}
-use Rattle.meaning.specs.Basics.{if_then_else_, all, word}
-use Rattle.meaning.specs.Filters.{filterOf, filterInRange}
+use Rattle.meaning.specs.Basics.{if_then_else_, word}
+use Rattle.meaning.specs.Filters.{filterOf}
 use Rattle.meaning.specs.Rules.{Rule, filterIn, weight, firstLargestFrom, firstLargest, chosenPlace}
-use Rattle.meaning.proofs.Tests.{all-place, all-weaken}
-use Rattle.buffer.specs.Slots.{slots, withSlots, insertAt, removeAt, Wide}
-use Rattle.buffer.specs.Zeros.{zeros}
-use Rattle.buffer.proofs.SlotLaws.{length-slots, slots-next, slots-part, slots-behind, slot-at, slots-with, wide-slots, wide-set, wide-insert, wide-remove, wide-append, slots-first}
-use Rattle.buffer.proofs.ZeroLaws.{length-zeros}
-use Rattle.buffer.proofs.ListLaws.{map-set, map-insert, map-remove, length-insert, length-remove, element-at, all-map}
+use Rattle.meaning.proofs.Tests.{all-place}
+use Rattle.buffer.specs.Slots.{slots}
+use Rattle.buffer.proofs.SlotLaws.{length-slots, slots-next, slots-part, slot-at}
+use Rattle.buffer.proofs.ListLaws.{element-at}
 use Rattle.filter.specs.Slots.{FilterBytes, RuleArea, ruleOf, rulesOf, prefixFits}
-use Rattle.filter.proofs.FilterLaws.{filter-part, range-prefix-fits}
+use Rattle.filter.proofs.FilterLaws.{filter-part}
 
 -- ONE RULE
 
@@ -58,13 +55,6 @@ slot-bytes n i m area h =
     let t : T (prefixFits (getD (slots RULE-WIDTH n m) i [])) = all-place prefixFits (slots RULE-WIDTH n m) [] i (area .prefixes) (rw (length-slots RULE-WIDTH n m) h) in
     let u : T (prefixFits (take RULE-WIDTH (drop (RULE-WIDTH * i) m))) = rw (slot-at RULE-WIDTH i n m h) at t in
     rw k (record { whole = omega arith; prefix = leb→le (getD (take RULE-WIDTH (drop (RULE-WIDTH * i) m)) PREFIX-AT 0) 16 u })
-
--- rules whose filters are in range are such an area
-pub rules-area : (n : ℕ) (m : List ℕ) → n ≤ 4096 → RULE-WIDTH * n ≤ length m → T (all (λ (r : Rule). filterInRange (r .code)) (rulesOf n m)) → RuleArea n m
-unfolding rulesOf ruleOf
-rules-area n m h k t =
-    let u : T (all (λ (s : List ℕ). filterInRange (take FILTER-BYTES s)) (slots RULE-WIDTH n m)) = rw (all-map ruleOf (λ (r : Rule). filterInRange (r .code)) (slots RULE-WIDTH n m)) at t in
-    record { few = h; room = k; prefixes = all-weaken (λ (s : List ℕ). filterInRange (take FILTER-BYTES s)) prefixFits (slots RULE-WIDTH n m) range-prefix-fits u }
 
 -- A WALK: the rules from place i on
 
@@ -135,38 +125,3 @@ chosen-within class ds rs k e =
 pub rules-part : (n k : ℕ) (m : List ℕ) → RULE-WIDTH * n ≤ k → rulesOf n (take k m) ≡ rulesOf n m
 unfolding rulesOf
 rules-part n k m h = ap (map ruleOf) (slots-part RULE-WIDTH n k m h)
-
-pub rules-behind : (n : ℕ) (m r : List ℕ) → RULE-WIDTH * n ≤ length m → rulesOf n (m ++ r) ≡ rulesOf n m
-unfolding rulesOf
-rules-behind n m r h = ap (map ruleOf) (slots-behind RULE-WIDTH n m r h)
-
--- AN EDIT OF THE SLOTS
-
-module _ (n i : ℕ) (m : List ℕ) (room : RULE-WIDTH * n ≤ length m) where
-  pub rules-set : (x : List ℕ) → length x ≡ RULE-WIDTH → rulesOf n (withSlots RULE-WIDTH n (set (slots RULE-WIDTH n m) i x) m) ≡ set (rulesOf n m) i (ruleOf x)
-  unfolding rulesOf
-  rules-set x e =
-      let l : length (set (slots RULE-WIDTH n m) i x) ≡ n = length-set (slots RULE-WIDTH n m) i x ∙ length-slots RULE-WIDTH n m in
-      ap (map ruleOf) (slots-with RULE-WIDTH n (set (slots RULE-WIDTH n m) i x) m (wide-set RULE-WIDTH i x (slots RULE-WIDTH n m) e (wide-slots RULE-WIDTH n m room)) l) ∙ map-set ruleOf i x (slots RULE-WIDTH n m)
-
-  pub rules-insert : (x : List ℕ) → length x ≡ RULE-WIDTH → i ≤ n
-      → rulesOf (n + 1) (withSlots RULE-WIDTH (n + 1) (insertAt i x (slots RULE-WIDTH n m)) m) ≡ insertAt i (ruleOf x) (rulesOf n m)
-  unfolding rulesOf
-  rules-insert x e h =
-      let l : length (insertAt i x (slots RULE-WIDTH n m)) ≡ n + 1 =
-      length-insert i x (slots RULE-WIDTH n m) (rw (length-slots RULE-WIDTH n m) h) ∙ ap suc (length-slots RULE-WIDTH n m) ∙ sym (add-one n) in
-      ap (map ruleOf) (slots-with RULE-WIDTH (n + 1) (insertAt i x (slots RULE-WIDTH n m)) m (wide-insert RULE-WIDTH i x (slots RULE-WIDTH n m) e (wide-slots RULE-WIDTH n m room)) l)
-      ∙ map-insert ruleOf i x (slots RULE-WIDTH n m)
-
-  pub rules-remove : i < n → rulesOf (n - 1) (withSlots RULE-WIDTH n (removeAt i (slots RULE-WIDTH n m) ++ zeros RULE-WIDTH ∷ []) m) ≡ removeAt i (rulesOf n m)
-  unfolding rulesOf
-  rules-remove h =
-      let kept : List (List ℕ) = removeAt i (slots RULE-WIDTH n m) in
-      let ss : List (List ℕ) = kept ++ zeros RULE-WIDTH ∷ [] in
-      let k : suc (length kept) ≡ n = length-remove i (slots RULE-WIDTH n m) (rw (length-slots RULE-WIDTH n m) h) ∙ length-slots RULE-WIDTH n m in
-      let l : length ss ≡ n = length-append kept (zeros RULE-WIDTH ∷ []) ∙ omega arith in
-      let wide : Wide RULE-WIDTH ss = wide-append RULE-WIDTH kept (zeros RULE-WIDTH ∷ []) (wide-remove RULE-WIDTH i (slots RULE-WIDTH n m) (wide-slots RULE-WIDTH n m room)) (length-zeros RULE-WIDTH, tt) in
-      let e : slots RULE-WIDTH (n - 1) (withSlots RULE-WIDTH n ss m) ≡ kept =
-      sym (slots-first RULE-WIDTH (n - 1) n (withSlots RULE-WIDTH n ss m) (omega arith)) ∙ ap (take (n - 1)) (slots-with RULE-WIDTH n ss m wide l)
-      ∙ take-at kept (zeros RULE-WIDTH ∷ []) (n - 1) (omega arith) in
-      ap (map ruleOf) e ∙ map-remove ruleOf i (slots RULE-WIDTH n m)
