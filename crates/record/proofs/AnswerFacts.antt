@@ -189,17 +189,10 @@ one-more xs c n h = rw (length-append xs (c ∷ [])) (omega arith)
 
 module _ (settings : Settings) (lookup : Lookup) (fas : List ℕ) (sf : SettingsFine settings) (lf : LookupFine lookup) where
   module _ (n : ℕ) (s : Stage) (k : StageFine n s) where
-    inprtg-fine : StageFine (n + 1) (inprtg settings lookup fas s)
-    unfolding inprtg
-    inprtg-fine =
-        record {
-          response = four-at (settings .answers) (lookup .kind) (sf .answers);
-          done = one-more (s .done) INPRTG n (k .done);
-          rn = k .rn;
-          sp = k .sp;
-          asd = k .asd;
-          grn = k .grn;
-        }
+    -- with these values
+    with-values : (code response : ℕ) (rn sp asd grn : List ℕ) (withheld : Bool) → response ≤ 4 → Digits rn → Digits sp → Digits asd → Digits grn
+        → StageFine (n + 1) (record { response = response; done = s .done ++ (code ∷ []); rn = rn; sp = sp; asd = asd; grn = grn; withheld = withheld })
+    with-values code response rn sp asd grn withheld a b c d e = record { response = a; done = one-more (s .done) code n (k .done); rn = b; sp = c; asd = d; grn = e }
 
     rn-digits : Digits (rnSet settings lookup fas s)
     unfolding rnSet
@@ -208,56 +201,8 @@ module _ (settings : Settings) (lookup : Lookup) (fas : List ℕ) (sf : Settings
         either Digits (eqb (lookup .kind) 2) (lookup .entity) other (lf .entity)
         (either Digits (eqb (lookup .kind) 3 && (not (isEmpty (settings .dfltrn)) && contains RN fas)) (settings .dfltrn) (s .rn) (sf .dfltrn) (k .rn))
 
-    cdpnnp-fine : StageFine (n + 1) (cdpnnp settings lookup fas s)
-    unfolding cdpnnp
-    cdpnnp-fine =
-        record {
-          response = k .response;
-          done = one-more (s .done) CDPNNP n (k .done);
-          rn = rn-digits;
-          sp = either Digits (eqb (lookup .kind) 3) (lookup .entity) (s .sp) (lf .entity) (k .sp);
-          asd = k .asd;
-          grn = k .grn;
-        }
-
-    asdlkup-fine : StageFine (n + 1) (asdlkup settings lookup fas s)
-    unfolding asdlkup
-    asdlkup-fine =
-        record {
-          response = k .response;
-          done = one-more (s .done) ASDLKUP n (k .done);
-          rn = k .rn;
-          sp = k .sp;
-          asd = either Digits (isEmpty (lookup .asd)) (s .asd) (lookup .asd) (k .asd) (lf .asd);
-          grn = k .grn;
-        }
-
-    grnlkup-fine : StageFine (n + 1) (grnlkup settings lookup fas s)
-    unfolding grnlkup
-    grnlkup-fine =
-        record {
-          response = k .response;
-          done = one-more (s .done) GRNLKUP n (k .done);
-          rn = k .rn;
-          sp = k .sp;
-          asd = k .asd;
-          grn = either Digits (isEmpty (lookup .grn)) (s .grn) (lookup .grn) (k .grn) (lf .grn);
-        }
-
-    cdial-fine : StageFine (n + 1) (cdial settings lookup fas s)
-    unfolding cdial
-    cdial-fine =
-        record {
-          response = k .response;
-          done = one-more (s .done) CDIAL n (k .done);
-          rn = k .rn;
-          sp = k .sp;
-          asd = k .asd;
-          grn = k .grn;
-        }
-
     carried-fine : (c : ℕ) → StageFine (n + 1) (carryOut settings lookup fas c s)
-    unfolding carryOut
+    unfolding carryOut inprtg cdpnnp asdlkup grnlkup cdial
     carried-fine c = go (eqb c INPRTG) (eqb c CDPNNP) (eqb c ASDLKUP) (eqb c GRNLKUP)
       where
         go : (i d a g : Bool)
@@ -266,11 +211,11 @@ module _ (settings : Settings) (lookup : Lookup) (fas : List ℕ) (sf : Settings
             if d then cdpnnp settings lookup fas s else
             if a then asdlkup settings lookup fas s else
             if g then grnlkup settings lookup fas s else cdial settings lookup fas s)
-        go true d a g = inprtg-fine
-        go false true a g = cdpnnp-fine
-        go false false true g = asdlkup-fine
-        go false false false true = grnlkup-fine
-        go false false false false = cdial-fine
+        go true d a g = with-values INPRTG _ _ _ _ _ _ (four-at (settings .answers) (lookup .kind) (sf .answers)) (k .rn) (k .sp) (k .asd) (k .grn)
+        go false true a g = with-values CDPNNP _ _ _ _ _ _ (k .response) rn-digits (either Digits (eqb (lookup .kind) 3) (lookup .entity) (s .sp) (lf .entity) (k .sp)) (k .asd) (k .grn)
+        go false false true g = with-values ASDLKUP _ _ _ _ _ _ (k .response) (k .rn) (k .sp) (either Digits (isEmpty (lookup .asd)) (s .asd) (lookup .asd) (k .asd) (lf .asd)) (k .grn)
+        go false false false true = with-values GRNLKUP _ _ _ _ _ _ (k .response) (k .rn) (k .sp) (k .asd) (either Digits (isEmpty (lookup .grn)) (s .grn) (lookup .grn) (k .grn) (lf .grn))
+        go false false false false = with-values CDIAL _ _ _ _ _ _ (k .response) (k .rn) (k .sp) (k .asd) (k .grn)
 
   serve-fine : (cs : List ℕ) (n : ℕ) (s : Stage) → StageFine n s → StageFine (n + length cs) (serve settings lookup fas cs s)
   serve-fine [] n s k = stage-more n (n + 0) s (omega arith) k

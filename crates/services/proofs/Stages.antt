@@ -82,44 +82,34 @@ module _ (actions : List ℕ) (count : ℕ) (e : Effect) (h : count < length act
   abbrev after : ℕ → Effect → Served
   after code r = servedWith (set actions count code) (count + 1) r
 
+  listed : {action : Settings → Lookup → List ℕ → Stage → Stage} {kind answer : ℕ} (code : ℕ) (r : Effect)
+      → ((settings : Settings) (lookup : Lookup) (fas : List ℕ) → lookup .kind ≡ kind → getD (settings .answers) kind 0 ≡ answer
+      → stageOf settings lookup fas (after code r) ≡ action settings lookup fas (stageOf settings lookup fas before))
+      → CarriesOut action kind answer before (after code r)
+  listed code r same = record { stage = same; count = refl; behind = behind-stays code before }
+
   carries-inprtg : (kind answer : ℕ) → CarriesOut inprtg kind answer before (after INPRTG (effectAfter INPRTG kind answer e))
   unfolding stageOf inprtg effectAfter
-  carries-inprtg kind answer =
-      record { stage = λ settings lookup fas k a. rw (done-more INPRTG before h, k, a); count = refl; behind = behind-stays INPRTG before }
+  carries-inprtg kind answer = listed INPRTG _ (λ settings lookup fas k a. rw (done-more INPRTG before h, k, a))
 
   carries-cdpnnp : (kind answer : ℕ) → CarriesOut cdpnnp kind answer before (after CDPNNP (effectAfter CDPNNP kind answer e))
   unfolding stageOf cdpnnp effectAfter
   carries-cdpnnp kind answer =
-      record {
-        stage =
-            λ settings lookup fas k a.
-            rw (done-more CDPNNP before h, ← k, ← rn-again settings lookup fas (e .ported) (stageOf settings lookup fas before) refl, ← sp-again (eqb (lookup .kind) 3) (e .ported) (lookup .entity));
-        count = refl;
-        behind = behind-stays CDPNNP before;
-      }
+      listed CDPNNP _
+      (λ settings lookup fas k a.
+      rw (done-more CDPNNP before h, ← k, ← rn-again settings lookup fas (e .ported) (stageOf settings lookup fas before) refl, ← sp-again (eqb (lookup .kind) 3) (e .ported) (lookup .entity)))
 
   carries-asdlkup : (kind answer : ℕ) → CarriesOut asdlkup kind answer before (after ASDLKUP (effectAfter ASDLKUP kind answer e))
   unfolding stageOf asdlkup effectAfter
-  carries-asdlkup kind answer =
-      record {
-        stage = λ settings lookup fas k a. rw (done-more ASDLKUP before h, ← set-again (isEmpty (lookup .asd)) (e .asd) (lookup .asd) refl);
-        count = refl;
-        behind = behind-stays ASDLKUP before;
-      }
+  carries-asdlkup kind answer = listed ASDLKUP _ (λ settings lookup fas k a. rw (done-more ASDLKUP before h, ← set-again (isEmpty (lookup .asd)) (e .asd) (lookup .asd) refl))
 
   carries-grnlkup : (kind answer : ℕ) → CarriesOut grnlkup kind answer before (after GRNLKUP (effectAfter GRNLKUP kind answer e))
   unfolding stageOf grnlkup effectAfter
-  carries-grnlkup kind answer =
-      record {
-        stage = λ settings lookup fas k a. rw (done-more GRNLKUP before h, ← set-again (isEmpty (lookup .grn)) (e .grn) (lookup .grn) refl);
-        count = refl;
-        behind = behind-stays GRNLKUP before;
-      }
+  carries-grnlkup kind answer = listed GRNLKUP _ (λ settings lookup fas k a. rw (done-more GRNLKUP before h, ← set-again (isEmpty (lookup .grn)) (e .grn) (lookup .grn) refl))
 
   carries-cdial : (kind answer : ℕ) → CarriesOut cdial kind answer before (after CDIAL (effectAfter CDIAL kind answer e))
   unfolding stageOf cdial effectAfter
-  carries-cdial kind answer =
-      record { stage = λ settings lookup fas k a. rw (done-more CDIAL before h); count = refl; behind = behind-stays CDIAL before }
+  carries-cdial kind answer = listed CDIAL _ (λ settings lookup fas k a. rw (done-more CDIAL before h))
 
   -- every other code is carried out as CDIAL
   other-effect : (code kind answer : ℕ) → CDIAL < code → effectAfter code kind answer e ≡ effectAfter CDIAL kind answer e

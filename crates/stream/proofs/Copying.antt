@@ -146,24 +146,10 @@ module _ {from to : ℤ} {plan input output now in-hand out-hand : List ℕ} {re
           chain = turned (i .chain) (i .ready) w;
         }
 
-    -- any other is the last
-    pub copying-last : ((next : Rest) → t ≡ Goes next → ⊥) → CopyPromise from to (length plan) input output after in-left out-left t
-    copying-last none =
-        record {
-          turns = i .turns;
-          given = i .given;
-          written = i .written;
-          memory = now;
-          rest = rest;
-          input = in-hand;
-          output = out-hand;
-          chain = i .chain;
-          ready = i .ready;
-          ends = last-so (i .turns) t none (by-read p);
-        }
-
-  pub copying-spent : k ≡ 0 → CopyPromise from to (length plan) input output now in-hand out-hand (Spent rest)
-  copying-spent e =
+  -- after the turns taken, the last
+  copied : {after in-left out-left : List ℕ} {t : Turned} → LastTurn now rest in-hand out-hand after in-left out-left (i .turns) t
+      → CopyPromise from to (length plan) input output after in-left out-left t
+  copied last =
       record {
         turns = i .turns;
         given = i .given;
@@ -174,8 +160,16 @@ module _ {from to : ℤ} {plan input output now in-hand out-hand : List ℕ} {re
         output = out-hand;
         chain = i .chain;
         ready = i .ready;
-        ends = (omega (arith, i .count, e), refl, refl, refl, refl);
+        ends = last;
       }
+
+  -- a turn that does not go on is the last
+  pub copying-last : {after in-left out-left : List ℕ} {t : Turned} → TurnPromise now rest in-hand out-hand after in-left out-left t → ((next : Rest) → t ≡ Goes next → ⊥)
+      → CopyPromise from to (length plan) input output after in-left out-left t
+  copying-last {t = t} p none = copied (last-so (i .turns) t none (by-read p))
+
+  pub copying-spent : k ≡ 0 → CopyPromise from to (length plan) input output now in-hand out-hand (Spent rest)
+  copying-spent e = copied (omega (arith, i .count, e), refl, refl, refl, refl)
 
 -- FOR THE FUNCTION
 
