@@ -7,9 +7,6 @@ use Rattle.actions.proofs.Tables.{tests}
 use Rattle.actions.proofs.ca_in_range.Statement.{statement}
 use Rattle.actions.proofs.ca_in_range.Tie as tie
 
-most-of-requires : tie.Need-most-of-requires
-most-of-requires c κs = search needs
-
 returns : tie.Need-returns
 unfolding caInRange
 returns c =
@@ -29,4 +26,4 @@ unfolding caInRange
 returns-4 c = search tests
 
 pub ca-in-range-spec : {M : Type 1} → statement M
-ca-in-range-spec = tie.close (tie.spec most-of-requires returns returns-2 returns-3 returns-4)
+ca-in-range-spec = tie.close (tie.spec (λ c κs. search needs) returns returns-2 returns-3 returns-4)

@@ -6,29 +6,14 @@ use Rattle.meaning.specs.Groups.{casFit}
 use Rattle.actions.proofs.cas_fit.Statement.{statement}
 use Rattle.actions.proofs.cas_fit.Tie as tie
 
-no-conditioning-requires : tie.Need-no-conditioning-requires
-no-conditioning-requires c κs = search needs
-
 returns : tie.Need-returns
 unfolding casFit
 returns c = rw (sym (c .before .no-conditioning .ensures) ∙ c .if1 .taken)
-
-fpfx-meets-prefix-requires : tie.Need-fpfx-meets-prefix-requires
-fpfx-meets-prefix-requires c κs = search needs
 
 returns-2 : tie.Need-returns-2
 unfolding casFit
 returns-2 c =
     rw (sym (c .before .before .before .no-conditioning .ensures) ∙ c .before .before .if1 .left, sym (c .before .fpfx-meets-prefix .ensures) ∙ not-true _ (c .if2 .taken))
-
-has-x-requires : tie.Need-has-x-requires
-has-x-requires c κs = search needs
-
-fixed-sum-requires : tie.Need-fixed-sum-requires
-fixed-sum-requires c κs = search needs
-
-sum-fits-requires : tie.Need-sum-fits-requires
-sum-fits-requires c κs = search needs
 
 returns-3 : tie.Need-returns-3
 unfolding casFit
@@ -42,11 +27,11 @@ pub cas-fit-spec : {M : Type 1} → statement M
 cas-fit-spec =
     tie.close
     (tie.spec
-    no-conditioning-requires
+    (λ c κs. search needs)
     returns
-    fpfx-meets-prefix-requires
+    (λ c κs. search needs)
     returns-2
-    has-x-requires
-    fixed-sum-requires
-    sum-fits-requires
+    (λ c κs. search needs)
+    (λ c κs. search needs)
+    (λ c κs. search needs)
     returns-3)

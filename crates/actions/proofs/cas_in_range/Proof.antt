@@ -17,40 +17,10 @@ Inv-loop cas i₀ i = (i ≤ length cas) × (casInRange (drop i cas) ≡ casInRa
 abbrev μ-loop : tie.MeasureT-loop
 μ-loop cas i₀ i = length cas - i
 
-loop-holds : tie.Need-loop-holds Inv-loop μ-loop
-loop-holds c = search needs
-
-sub-if1 : tie.Need-sub-if1 Inv-loop μ-loop
-sub-if1 c = search needs
-
 returns : tie.Need-returns Inv-loop μ-loop
 returns c =
     let l = c .before .before in
     on casInRange (next-last (l .before .before .args .cas .now) (l .loop .i) (search needs) (search needs)) (l .loop .inv .1)
-
-shared-slice-read-code : tie.Need-shared-slice-read-code Inv-loop μ-loop
-shared-slice-read-code c = search needs
-
-add-count : tie.Need-add-count Inv-loop μ-loop
-add-count c = search needs
-
-shared-slice-read-count : tie.Need-shared-slice-read-count Inv-loop μ-loop
-shared-slice-read-count c = search needs
-
-add-all-zero : tie.Need-add-all-zero Inv-loop μ-loop
-add-all-zero c = search needs
-
-sub-all-zero : tie.Need-sub-all-zero Inv-loop μ-loop
-sub-all-zero c = search needs
-
-part-all-zero-start : tie.Need-part-all-zero-start Inv-loop μ-loop
-part-all-zero-start c = search needs
-
-part-all-zero-end : tie.Need-part-all-zero-end Inv-loop μ-loop
-part-all-zero-end c = search needs
-
-all-zero-requires : tie.Need-all-zero-requires Inv-loop μ-loop
-all-zero-requires c κs = search needs
 
 returns-2 : tie.Need-returns-2 Inv-loop μ-loop
 returns-2 c =
@@ -68,20 +38,11 @@ returns-3 c =
     let s = on casInRange (next-two cas (l .loop .i) (search needs)) (l .loop .inv .1) in
     some ∙ (rw (eq-eqb _ 0 (c .before .if2 .taken), some) at s)
 
-ca-in-range-requires : tie.Need-ca-in-range-requires Inv-loop μ-loop
-ca-in-range-requires c κs = search needs
-
 returns-4 : tie.Need-returns-4 Inv-loop μ-loop
 returns-4 c =
     let l = c .before .before .before .before .before .before .before in
     let s = on casInRange (next-two (l .before .before .args .cas .now) (l .loop .i) (search needs)) (l .loop .inv .1) in
     rw (ne-eqb _ 0 (c .before .before .if2 .left), sym (c .before .ca-in-range .ensures) ∙ not-true _ (c .if4 .taken)) at s
-
-add-i : tie.Need-add-i Inv-loop μ-loop
-add-i c = search needs
-
-loop-less : tie.Need-loop-less Inv-loop μ-loop
-loop-less c = search needs
 
 loop-again : tie.Need-loop-again Inv-loop μ-loop
 loop-again c =
@@ -100,22 +61,22 @@ cas-in-range-spec =
     (tie.spec
     Inv-loop
     μ-loop
-    loop-holds
-    sub-if1
+    (λ c. search needs)
+    (λ c. search needs)
     returns
-    shared-slice-read-code
-    add-count
-    shared-slice-read-count
-    add-all-zero
-    sub-all-zero
-    part-all-zero-start
-    part-all-zero-end
-    all-zero-requires
+    (λ c. search needs)
+    (λ c. search needs)
+    (λ c. search needs)
+    (λ c. search needs)
+    (λ c. search needs)
+    (λ c. search needs)
+    (λ c. search needs)
+    (λ c κs. search needs)
     returns-2
     returns-3
-    ca-in-range-requires
+    (λ c κs. search needs)
     returns-4
-    add-i
-    loop-less
+    (λ c. search needs)
+    (λ c. search needs)
     loop-again
     returns-5)

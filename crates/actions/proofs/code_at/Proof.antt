@@ -4,9 +4,6 @@ use Rattle.actions.proofs.Reading.{no-code-at, code-at}
 use Rattle.actions.proofs.code_at.Statement.{statement}
 use Rattle.actions.proofs.code_at.Tie as tie
 
-shared-slice-read-result : tie.Need-shared-slice-read-result
-shared-slice-read-result c = search needs
-
 returns : tie.Need-returns
 returns c =
     let args = c .before .before .args in
@@ -18,4 +15,4 @@ returns-2 c =
     no-code-at (args .codes .now) (args .i) (search needs)
 
 pub code-at-spec : {M : Type 1} → statement M
-code-at-spec = tie.close (tie.spec shared-slice-read-result returns returns-2)
+code-at-spec = tie.close (tie.spec (λ c. search needs) returns returns-2)

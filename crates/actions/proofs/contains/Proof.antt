@@ -17,12 +17,6 @@ Inv-loop codes code i₀ i = (i ≤ length codes) × (contains code (codesOf (dr
 abbrev μ-loop : tie.MeasureT-loop
 μ-loop codes code i₀ i = length codes - i
 
-loop-holds : tie.Need-loop-holds Inv-loop μ-loop
-loop-holds c = search needs
-
-code-at-requires : tie.Need-code-at-requires Inv-loop μ-loop
-code-at-requires c κs = search needs
-
 returns : tie.Need-returns Inv-loop μ-loop
 returns c =
     let l = c .before .before in
@@ -54,8 +48,8 @@ contains-spec =
     (tie.spec
     Inv-loop
     μ-loop
-    loop-holds
-    code-at-requires
+    (λ c. search needs)
+    (λ c κs. search needs)
     returns
     returns-2
     add-i

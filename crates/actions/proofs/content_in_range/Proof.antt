@@ -15,23 +15,11 @@ use Rattle.actions.proofs.content_in_range.Tie as tie
 abbrev parts : List ℕ → List Bool
 parts b = isOutgoingClass (getD b 0 0) ∷ casInRange (caBytes b) ∷ codesInRange CDIAL (saBytes b) ∷ codesInRange DELIMITER-B (faBytes b) ∷ []
 
-shared-slice-read-is-outgoing-class : tie.Need-shared-slice-read-is-outgoing-class
-shared-slice-read-is-outgoing-class c = search needs
-
-is-outgoing-class-requires : tie.Need-is-outgoing-class-requires
-is-outgoing-class-requires c κs = search needs
-
 returns : tie.Need-returns
 unfolding contentInRange
 returns c =
     let r = parts (c .before .before .before .before .args .content .now) in
     sym (all-false 0 r (sym (c .before .is-outgoing-class .ensures) ∙ not-true _ (c .if1 .taken)))
-
-cas-of-requires : tie.Need-cas-of-requires
-cas-of-requires c κs = search needs
-
-cas-in-range-requires : tie.Need-cas-in-range-requires
-cas-in-range-requires c κs = search needs
 
 returns-2 : tie.Need-returns-2
 unfolding contentInRange
@@ -39,23 +27,11 @@ returns-2 c =
     let r = parts (c .before .before .before .before .before .before .before .args .content .now) in
     sym (all-false 1 r (sym (rw (c .before .before .cas-of .ensures) at (c .before .cas-in-range .ensures)) ∙ not-true _ (c .if2 .taken)))
 
-sas-of-requires : tie.Need-sas-of-requires
-sas-of-requires c κs = search needs
-
-codes-in-range-requires : tie.Need-codes-in-range-requires
-codes-in-range-requires c κs = search needs
-
 returns-3 : tie.Need-returns-3
 unfolding contentInRange
 returns-3 c =
     let r = parts (c .before .before .before .before .before .before .before .before .before .before .args .content .now) in
     sym (all-false 2 r (sym (rw (c .before .before .sas-of .ensures) at (c .before .codes-in-range .ensures)) ∙ not-true _ (c .if3 .taken)))
-
-fas-of-requires : tie.Need-fas-of-requires
-fas-of-requires c κs = search needs
-
-codes-in-range-requires-2 : tie.Need-codes-in-range-requires-2
-codes-in-range-requires-2 c κs = search needs
 
 returns-4 : tie.Need-returns-4
 unfolding contentInRange
@@ -75,15 +51,15 @@ pub content-in-range-spec : {M : Type 1} → statement M
 content-in-range-spec =
     tie.close
     (tie.spec
-    shared-slice-read-is-outgoing-class
-    is-outgoing-class-requires
+    (λ c. search needs)
+    (λ c κs. search needs)
     returns
-    cas-of-requires
-    cas-in-range-requires
+    (λ c κs. search needs)
+    (λ c κs. search needs)
     returns-2
-    sas-of-requires
-    codes-in-range-requires
+    (λ c κs. search needs)
+    (λ c κs. search needs)
     returns-3
-    fas-of-requires
-    codes-in-range-requires-2
+    (λ c κs. search needs)
+    (λ c κs. search needs)
     returns-4)

@@ -16,19 +16,10 @@ Inv-loop cas n₀ i₀ n i = (i ≤ length cas) × (n ≤ i) × (n + count isX (
 abbrev μ-loop : tie.MeasureT-loop
 μ-loop cas n₀ i₀ n i = length cas - i
 
-loop-holds : tie.Need-loop-holds Inv-loop μ-loop
-loop-holds c = search needs
-
-action-at-requires : tie.Need-action-at-requires Inv-loop μ-loop
-action-at-requires c κs = search needs
-
 returns : tie.Need-returns Inv-loop μ-loop
 returns c =
     let l = c .before .before .before in
     omega (arith, ap (count isX) (c .before .before .action-at .ensures .ends (c .if1 .taken)), l .loop .inv .2)
-
-is-x-requires : tie.Need-is-x-requires Inv-loop μ-loop
-is-x-requires c κs = search needs
 
 add-n : tie.Need-add-n Inv-loop μ-loop
 add-n c = omega (arith, c .before .before .before .before .action-at .ensures .inside (c .before .before .if1 .left))
@@ -53,10 +44,10 @@ count-x-spec =
     (tie.spec
     Inv-loop
     μ-loop
-    loop-holds
-    action-at-requires
+    (λ c. search needs)
+    (λ c κs. search needs)
     returns
-    is-x-requires
+    (λ c κs. search needs)
     add-n
     add-i
     loop-less

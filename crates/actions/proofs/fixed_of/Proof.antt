@@ -4,9 +4,6 @@ use Rattle.actions.proofs.Tables.{tests}
 use Rattle.actions.proofs.fixed_of.Statement.{statement}
 use Rattle.actions.proofs.fixed_of.Tie as tie
 
-cast-result : tie.Need-cast-result
-cast-result c = search needs
-
 returns : tie.Need-returns
 returns c = search tests
 
@@ -17,4 +14,4 @@ returns-3 : tie.Need-returns-3
 returns-3 c = search tests
 
 pub fixed-of-spec : {M : Type 1} → statement M
-fixed-of-spec = tie.close (tie.spec cast-result returns returns-2 returns-3)
+fixed-of-spec = tie.close (tie.spec (λ c. search needs) returns returns-2 returns-3)

@@ -18,19 +18,10 @@ Inv-loop cas prefix sum₀ i₀ sum i =
 abbrev μ-loop : tie.MeasureT-loop
 μ-loop cas prefix sum₀ i₀ sum i = length cas - i
 
-loop-holds : tie.Need-loop-holds Inv-loop μ-loop
-loop-holds c = search needs
-
-action-at-requires : tie.Need-action-at-requires Inv-loop μ-loop
-action-at-requires c κs = search needs
-
 returns : tie.Need-returns Inv-loop μ-loop
 returns c =
     let l = c .before .before .before in
     omega (arith, ap (fixedSum (l .before .before .args .prefix)) (c .before .before .action-at .ensures .ends (c .if1 .taken)), l .loop .inv .2)
-
-fixed-of-requires : tie.Need-fixed-of-requires Inv-loop μ-loop
-fixed-of-requires c κs = search needs
 
 add-sum : tie.Need-add-sum Inv-loop μ-loop
 add-sum c =
@@ -60,10 +51,10 @@ fixed-sum-spec =
     (tie.spec
     Inv-loop
     μ-loop
-    loop-holds
-    action-at-requires
+    (λ c. search needs)
+    (λ c κs. search needs)
     returns
-    fixed-of-requires
+    (λ c κs. search needs)
     add-sum
     add-i
     loop-less

@@ -6,9 +6,6 @@ use Rattle.actions.proofs.Fit.{no-prefix, some-prefix}
 use Rattle.actions.proofs.fpfx_meets_prefix.Statement.{statement}
 use Rattle.actions.proofs.fpfx_meets_prefix.Tie as tie
 
-has-code-requires : tie.Need-has-code-requires
-has-code-requires c κs = search needs
-
 returns : tie.Need-returns
 returns c = ap not (c .has-code .ensures) ∙ sym (no-prefix _ _ (c .before .if1 .taken))
 
@@ -16,4 +13,4 @@ returns-2 : tie.Need-returns-2
 returns-2 c = sym (some-prefix _ _ (c .if1 .left))
 
 pub fpfx-meets-prefix-spec : {M : Type 1} → statement M
-fpfx-meets-prefix-spec = tie.close (tie.spec has-code-requires returns returns-2)
+fpfx-meets-prefix-spec = tie.close (tie.spec (λ c κs. search needs) returns returns-2)

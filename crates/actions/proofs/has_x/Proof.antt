@@ -9,11 +9,8 @@ use Rattle.actions.proofs.Fit.{some-counted}
 use Rattle.actions.proofs.has_x.Statement.{statement}
 use Rattle.actions.proofs.has_x.Tie as tie
 
-count-x-requires : tie.Need-count-x-requires
-count-x-requires c κs = search needs
-
 returns : tie.Need-returns
 returns c = ap (λ (n : ℕ). not (eqb n 0)) (c .count-x .ensures) ∙ some-counted isX (casOf (c .before .before .args .cas .now))
 
 pub has-x-spec : {M : Type 1} → statement M
-has-x-spec = tie.close (tie.spec count-x-requires returns)
+has-x-spec = tie.close (tie.spec (λ c κs. search needs) returns)

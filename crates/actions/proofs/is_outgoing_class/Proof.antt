@@ -26,18 +26,6 @@ known-is c = go (eqb c AS-INCOMING) (isClass c)
     go false true = refl
     go false false = refl
 
-outgoing-requires : tie.Need-outgoing-requires
-outgoing-requires c κs = search needs
-
-enum-told : tie.Need-enum-told
-enum-told c = search needs
-
-enum-told-2 : tie.Need-enum-told-2
-enum-told-2 c = search needs
-
-enum-told-3 : tie.Need-enum-told-3
-enum-told-3 c = search needs
-
 returns : tie.Need-returns
 returns c = sym (ap isKnown (c .enum-told .given .1)) ∙ ap isKnown (c .before .before .outgoing .ensures) ∙ known-is (c .before .before .before .args .b)
 
@@ -50,4 +38,4 @@ returns-3 c = sym (ap isKnown (c .enum-told3 .given .1)) ∙ ap isKnown (c .befo
 pub is-outgoing-class-spec : {M : Type 1} → statement M
 is-outgoing-class-spec =
     tie.close
-    (tie.spec outgoing-requires enum-told enum-told-2 enum-told-3 returns returns-2 returns-3)
+    (tie.spec (λ c κs. search needs) (λ c. search needs) (λ c. search needs) (λ c. search needs) returns returns-2 returns-3)

@@ -17,19 +17,10 @@ Inv-loop cas v i₀ i = (i ≤ length cas) × (isSet v (casOf (drop i cas)) ≡ 
 abbrev μ-loop : tie.MeasureT-loop
 μ-loop cas v i₀ i = length cas - i
 
-loop-holds : tie.Need-loop-holds Inv-loop μ-loop
-loop-holds c = search needs
-
-action-at-requires : tie.Need-action-at-requires Inv-loop μ-loop
-action-at-requires c κs = search needs
-
 returns : tie.Need-returns Inv-loop μ-loop
 returns c =
     let l = c .before .before .before in
     stop (isSet (l .before .before .args .v)) (c .before .before .action-at .ensures) (c .if1 .taken) (l .loop .inv .1)
-
-value-of-requires : tie.Need-value-of-requires Inv-loop μ-loop
-value-of-requires c κs = search needs
 
 returns-2 : tie.Need-returns-2 Inv-loop μ-loop
 returns-2 c =
@@ -57,10 +48,10 @@ is-set-spec =
     (tie.spec
     Inv-loop
     μ-loop
-    loop-holds
-    action-at-requires
+    (λ c. search needs)
+    (λ c κs. search needs)
     returns
-    value-of-requires
+    (λ c κs. search needs)
     returns-2
     add-i
     loop-less

@@ -4,11 +4,8 @@ use Rattle.actions.proofs.Reading.{first-decides}
 use Rattle.actions.proofs.no_codes.Statement.{statement}
 use Rattle.actions.proofs.no_codes.Tie as tie
 
-code-at-requires : tie.Need-code-at-requires
-code-at-requires c κs = search needs
-
 returns : tie.Need-returns
 returns c = first-decides (c .code-at .ensures)
 
 pub no-codes-spec : {M : Type 1} → statement M
-no-codes-spec = tie.close (tie.spec code-at-requires returns)
+no-codes-spec = tie.close (tie.spec (λ c κs. search needs) returns)

@@ -4,11 +4,8 @@ use Rattle.actions.proofs.Reading.{first-decides}
 use Rattle.actions.proofs.no_conditioning.Statement.{statement}
 use Rattle.actions.proofs.no_conditioning.Tie as tie
 
-action-at-requires : tie.Need-action-at-requires
-action-at-requires c κs = search needs
-
 returns : tie.Need-returns
 returns c = first-decides (c .before .action-at .ensures)
 
 pub no-conditioning-spec : {M : Type 1} → statement M
-no-conditioning-spec = tie.close (tie.spec action-at-requires returns)
+no-conditioning-spec = tie.close (tie.spec (λ c κs. search needs) returns)

@@ -7,9 +7,6 @@ use Rattle.meaning.specs.Actions.{valueOf}
 use Rattle.actions.proofs.value_of.Statement.{statement}
 use Rattle.actions.proofs.value_of.Tie as tie
 
-array-read-result : tie.Need-array-read-result
-array-read-result c = search needs
-
 returns : tie.Need-returns
 unfolding valueOf
 returns c = refl
@@ -21,4 +18,4 @@ returns-2 c =
     rw List·getD-eq-default
 
 pub value-of-spec : {M : Type 1} → statement M
-value-of-spec = tie.close (tie.spec array-read-result returns returns-2)
+value-of-spec = tie.close (tie.spec (λ c. search needs) returns returns-2)

@@ -12,39 +12,6 @@ use Rattle.blocks.proofs.OverLaws.{written-behind, two-parts}
 use Rattle.blocks.proofs.copy_sixteen.Statement.{statement}
 use Rattle.blocks.proofs.copy_sixteen.Tie as tie
 
-eight-requires : tie.Need-eight-requires
-eight-requires c κs = search needs
-
-sub-eight : tie.Need-sub-eight
-sub-eight c = search needs
-
-part-eight-start : tie.Need-part-eight-start
-part-eight-start c = search needs
-
-part-eight-end : tie.Need-part-eight-end
-part-eight-end c = search needs
-
-eight-requires-2 : tie.Need-eight-requires-2
-eight-requires-2 c κs = search needs
-
-put-eight-requires : tie.Need-put-eight-requires
-put-eight-requires c κs = search needs
-
-sub-put-eight : tie.Need-sub-put-eight
-sub-put-eight c = search needs
-
-part-put-eight-start : tie.Need-part-put-eight-start
-part-put-eight-start c = search needs
-
-part-put-eight-end : tie.Need-part-put-eight-end
-part-put-eight-end c = search needs
-
-put-eight-requires-2 : tie.Need-put-eight-requires-2
-put-eight-requires-2 c κs = search needs
-
-same-length : tie.Need-same-length
-same-length c = search needs
-
 returns : tie.Need-returns
 returns c =
     let g = c .before .before .before .before .before .before .before .before .before .before .before .before .before in
@@ -67,15 +34,15 @@ pub copy-sixteen-spec : {M : Type 1} → statement M
 copy-sixteen-spec =
     tie.close
     (tie.spec
-    eight-requires
-    sub-eight
-    part-eight-start
-    part-eight-end
-    eight-requires-2
-    put-eight-requires
-    sub-put-eight
-    part-put-eight-start
-    part-put-eight-end
-    put-eight-requires-2
-    same-length
+    (λ c κs. search needs)
+    (λ c. search needs)
+    (λ c. search needs)
+    (λ c. search needs)
+    (λ c κs. search needs)
+    (λ c κs. search needs)
+    (λ c. search needs)
+    (λ c. search needs)
+    (λ c. search needs)
+    (λ c κs. search needs)
+    (λ c. search needs)
     returns)

@@ -8,12 +8,6 @@ use Rattle.blocks.proofs.digits_in_range_by.Tie as tie
 returns : tie.Need-returns
 returns c = let a = c .before .before .before .args in sym (range-empty (a .s .now) (a .lo) (a .hi) (c .if1 .taken))
 
-shared-slice-read-wide : tie.Need-shared-slice-read-wide
-shared-slice-read-wide c = search needs
-
-wide-requires : tie.Need-wide-requires
-wide-requires c κs = search needs
-
 returns-2 : tie.Need-returns-2
 returns-2 c =
     let a = c .before .before .before .before .before .before .args in
@@ -23,18 +17,6 @@ returns-3 : tie.Need-returns-3
 returns-3 c =
     let a = c .before .before .before .before .before .before .before .args in
     sym (range-many (a .s .now) (a .lo) (a .hi) _ (c .before .before .before .before .if1 .left) (c .before .before .wide .ensures .is) (c .if3 .taken))
-
-sub-places-pass : tie.Need-sub-places-pass
-sub-places-pass c = search needs
-
-part-places-pass-start : tie.Need-part-places-pass-start
-part-places-pass-start c = search needs
-
-part-places-pass-end : tie.Need-part-places-pass-end
-part-places-pass-end c = search needs
-
-places-pass-requires : tie.Need-places-pass-requires
-places-pass-requires c κs = search needs
 
 returns-4 : tie.Need-returns-4
 returns-4 c =
@@ -48,12 +30,12 @@ digits-in-range-by-spec =
     tie.close
     (tie.spec
     returns
-    shared-slice-read-wide
-    wide-requires
+    (λ c. search needs)
+    (λ c κs. search needs)
     returns-2
     returns-3
-    sub-places-pass
-    part-places-pass-start
-    part-places-pass-end
-    places-pass-requires
+    (λ c. search needs)
+    (λ c. search needs)
+    (λ c. search needs)
+    (λ c κs. search needs)
     returns-4)

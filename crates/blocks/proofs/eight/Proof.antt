@@ -16,25 +16,13 @@ abbrev μ-loop : tie.MeasureT-loop
 loop-holds : tie.Need-loop-holds Inv-loop μ-loop
 loop-holds c = (search needs, c .before .pre, read-none (c .before .args .s .now))
 
-sub-i : tie.Need-sub-i Inv-loop μ-loop
-sub-i c = search needs
-
 mul-x : tie.Need-mul-x Inv-loop μ-loop
 mul-x c = let l = c .before .loop in omega (arith, read-room (l .inv .2) (c .loop-test .taken) 0 (omega arith))
-
-shared-slice-read-wide : tie.Need-shared-slice-read-wide Inv-loop μ-loop
-shared-slice-read-wide c = search needs
-
-wide-requires : tie.Need-wide-requires Inv-loop μ-loop
-wide-requires c κs = search needs
 
 add-x : tie.Need-add-x Inv-loop μ-loop
 add-x c =
     let l = c .before .before .before .loop in
     omega (arith, read-room (l .inv .2) (c .before .before .loop-test .taken) (c .wide .result) (c .wide .ensures .small))
-
-loop-less : tie.Need-loop-less Inv-loop μ-loop
-loop-less c = search needs
 
 loop-again : tie.Need-loop-again Inv-loop μ-loop
 loop-again c =
@@ -52,11 +40,11 @@ eight-spec =
     Inv-loop
     μ-loop
     loop-holds
-    sub-i
+    (λ c. search needs)
     mul-x
-    shared-slice-read-wide
-    wide-requires
+    (λ c. search needs)
+    (λ c κs. search needs)
     add-x
-    loop-less
+    (λ c. search needs)
     loop-again
     returns)

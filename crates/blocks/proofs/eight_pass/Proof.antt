@@ -5,12 +5,6 @@ use Rattle.blocks.proofs.MaskLaws.{block-bits}
 use Rattle.blocks.proofs.eight_pass.Statement.{statement}
 use Rattle.blocks.proofs.eight_pass.Tie as tie
 
-eight-requires : tie.Need-eight-requires
-eight-requires c κs = search needs
-
-eight-requires-2 : tie.Need-eight-requires-2
-eight-requires-2 c κs = search needs
-
 returns : tie.Need-returns
 returns c =
     let g = c .before .before .before .before in
@@ -18,4 +12,4 @@ returns c =
     (λ k. omega (arith, c .before .before .shared-slice-known2 .given k)) (c .before .eight .ensures) (c .eight2 .ensures)
 
 pub eight-pass-spec : {M : Type 1} → statement M
-eight-pass-spec = tie.close (tie.spec eight-requires eight-requires-2 returns)
+eight-pass-spec = tie.close (tie.spec (λ c κs. search needs) (λ c κs. search needs) returns)

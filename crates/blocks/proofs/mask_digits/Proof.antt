@@ -20,23 +20,11 @@ abbrev μ-loop : tie.MeasureT-loop
 loop-holds : tie.Need-loop-holds Inv-loop μ-loop
 loop-holds c = let long : length (c .args .table .now) ≡ 64 = ap length (c .pre) ∙ length-masks 0 64 in (zero-le, long, long, c .pre)
 
-slice-write-table : tie.Need-slice-write-table Inv-loop μ-loop
-slice-write-table c = search needs
-
-add-i : tie.Need-add-i Inv-loop μ-loop
-add-i c = search needs
-
-loop-less : tie.Need-loop-less Inv-loop μ-loop
-loop-less c = search needs
-
 loop-again : tie.Need-loop-again Inv-loop μ-loop
 loop-again c =
     let l = c .before .loop in
     let e = ap (λ (ms : List ℕ). set ms (l .i) 240) (l .inv .3) ∙ masks-more (l .i) 64 (omega arith) in
     (omega arith, l .inv .1, ap length e ∙ length-masks _ 64, rw add-one e)
-
-same-length : tie.Need-same-length Inv-loop μ-loop
-same-length c = search needs
 
 returns : tie.Need-returns Inv-loop μ-loop
 returns c = let l = c .before .loop in l .inv .3 ∙ masks-whole (l .i) (omega arith)
@@ -48,9 +36,9 @@ mask-digits-spec =
     Inv-loop
     μ-loop
     loop-holds
-    slice-write-table
-    add-i
-    loop-less
+    (λ c. search needs)
+    (λ c. search needs)
+    (λ c. search needs)
     loop-again
-    same-length
+    (λ c. search needs)
     returns)

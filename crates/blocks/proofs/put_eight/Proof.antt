@@ -20,17 +20,8 @@ loop-holds c =
     let a = c .args in
     (search needs, c .pre, seam-none (bytesOf 8 (a .x)) (a .s .now) (rw length-bytes (c .pre)), left-none (a .x))
 
-cast-s : tie.Need-cast-s Inv-loop μ-loop
-cast-s c = search needs
-
 slice-write-s : tie.Need-slice-write-s Inv-loop μ-loop
 slice-write-s c = omega (arith, c .before .loop .inv .2 .long)
-
-add-i : tie.Need-add-i Inv-loop μ-loop
-add-i c = search needs
-
-loop-less : tie.Need-loop-less Inv-loop μ-loop
-loop-less c = search needs
 
 loop-again : tie.Need-loop-again Inv-loop μ-loop
 loop-again c =
@@ -38,9 +29,6 @@ loop-again c =
     let h = c .loop-test .taken in
     let b = left-byte (l .inv .3) h in
     (omega arith, l .inv .1, seam-more _ (l .inv .2) (rw length-bytes h) b, left-more (l .inv .3) h)
-
-same-length : tie.Need-same-length Inv-loop μ-loop
-same-length c = search needs
 
 returns : tie.Need-returns Inv-loop μ-loop
 returns c = let l = c .before .loop in seam-all (l .inv .2) (rw length-bytes (c .loop-test .left))
@@ -52,10 +40,10 @@ put-eight-spec =
     Inv-loop
     μ-loop
     loop-holds
-    cast-s
+    (λ c. search needs)
     slice-write-s
-    add-i
-    loop-less
+    (λ c. search needs)
+    (λ c. search needs)
     loop-again
-    same-length
+    (λ c. search needs)
     returns)

@@ -5,11 +5,8 @@ use borrow.Author.Needs.{needs}
 use Rattle.buffer.proofs.all_zero.Statement.{statement}
 use Rattle.buffer.proofs.all_zero.Tie as tie
 
-all-at-most-requires : tie.Need-all-at-most-requires
-all-at-most-requires c κs = search needs
-
 returns : tie.Need-returns
 returns c = c .all-at-most .ensures ∙ all-at-most-zero (c .before .before .args .s .now)
 
 pub all-zero-spec : {M : Type 1} → statement M
-all-zero-spec = tie.close (tie.spec all-at-most-requires returns)
+all-zero-spec = tie.close (tie.spec (λ c κs. search needs) returns)

@@ -10,12 +10,6 @@ mul-a c =
     let g = c .before .before in
     omega (arith, g .pre, times-within (g .args .w) (g .args .place) (g .args .count) (g .pre .0))
 
-mul-e : tie.Need-mul-e
-mul-e c = search needs
-
-add-e : tie.Need-add-e
-add-e c = search needs
-
 sub-push-front : tie.Need-sub-push-front
 sub-push-front c =
     let g = c .before .before in
@@ -26,16 +20,10 @@ part-push-front-start c =
     let g = c .before .before in
     omega (arith, g .pre, times-within (g .args .w) (g .args .place) (g .args .count) (g .pre .0))
 
-part-push-front-end : tie.Need-part-push-front-end
-part-push-front-end c = search needs
-
 push-front-requires : tie.Need-push-front-requires
 push-front-requires c κs =
     let g = c .before .before .before in
     omega (arith, g .pre, times-within (g .args .w) (g .args .place) (g .args .count) (g .pre .0))
-
-same-length : tie.Need-same-length
-same-length c = search needs
 
 returns : tie.Need-returns
 returns c =
@@ -48,11 +36,11 @@ insert-slot-spec =
     tie.close
     (tie.spec
     mul-a
-    mul-e
-    add-e
+    (λ c. search needs)
+    (λ c. search needs)
     sub-push-front
     part-push-front-start
-    part-push-front-end
+    (λ c. search needs)
     push-front-requires
-    same-length
+    (λ c. search needs)
     returns)

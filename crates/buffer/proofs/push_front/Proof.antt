@@ -5,15 +5,6 @@ use borrow.Author.Needs.{needs}
 use Rattle.buffer.proofs.push_front.Statement.{statement}
 use Rattle.buffer.proofs.push_front.Tie as tie
 
-shift-up-requires : tie.Need-shift-up-requires
-shift-up-requires c κs = search needs
-
-copy-requires : tie.Need-copy-requires
-copy-requires c κs = search needs
-
-same-length : tie.Need-same-length
-same-length c = search needs
-
 returns : tie.Need-returns
 returns c =
     let g = c .before .before .before .before .before .before .before .before .before .before in
@@ -21,4 +12,4 @@ returns c =
     c .before .before .copy .ensures ∙ push-parts (g .args .s .now) (g .args .x .now) _ _ (g .pre) (u .ensures)
 
 pub push-front-spec : {M : Type 1} → statement M
-push-front-spec = tie.close (tie.spec shift-up-requires copy-requires same-length returns)
+push-front-spec = tie.close (tie.spec (λ c κs. search needs) (λ c κs. search needs) (λ c. search needs) returns)

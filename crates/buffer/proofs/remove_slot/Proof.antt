@@ -11,9 +11,6 @@ mul-a c =
     let g = c .before in
     omega (arith, g .pre, times-below (g .args .w) (g .args .place) (g .args .count) (g .pre .0))
 
-mul-e : tie.Need-mul-e
-mul-e c = search needs
-
 sub-pop-front : tie.Need-sub-pop-front
 sub-pop-front c =
     let g = c .before in
@@ -24,16 +21,10 @@ part-pop-front-start c =
     let g = c .before in
     omega (arith, g .pre, times-below (g .args .w) (g .args .place) (g .args .count) (g .pre .0))
 
-part-pop-front-end : tie.Need-part-pop-front-end
-part-pop-front-end c = search needs
-
 pop-front-requires : tie.Need-pop-front-requires
 pop-front-requires c κs =
     let g = c .before .before in
     omega (arith, g .pre, times-below (g .args .w) (g .args .place) (g .args .count) (g .pre .0))
-
-same-length : tie.Need-same-length
-same-length c = search needs
 
 returns : tie.Need-returns
 returns c =
@@ -46,10 +37,10 @@ remove-slot-spec =
     tie.close
     (tie.spec
     mul-a
-    mul-e
+    (λ c. search needs)
     sub-pop-front
     part-pop-front-start
-    part-pop-front-end
+    (λ c. search needs)
     pop-front-requires
-    same-length
+    (λ c. search needs)
     returns)

@@ -15,27 +15,9 @@ Inv-loop s₀ w n i₀ s i = (n ≡ length (drop w s₀)) × Seam (drop w s₀) 
 abbrev μ-loop : tie.MeasureT-loop
 μ-loop s₀ w n i₀ s i = n - i
 
-sub-n : tie.Need-sub-n Inv-loop μ-loop
-sub-n c = search needs
-
 loop-holds : tie.Need-loop-holds Inv-loop μ-loop
 loop-holds c =
     (simp length-drop, seam-none (drop (c .args .w) (c .args .s .now)) (c .args .s .now) (simp length-drop (omega arith)))
-
-add-s : tie.Need-add-s Inv-loop μ-loop
-add-s c = search needs
-
-slice-read-s : tie.Need-slice-read-s Inv-loop μ-loop
-slice-read-s c = search needs
-
-slice-write-s : tie.Need-slice-write-s Inv-loop μ-loop
-slice-write-s c = search needs
-
-add-i : tie.Need-add-i Inv-loop μ-loop
-add-i c = search needs
-
-loop-less : tie.Need-loop-less Inv-loop μ-loop
-loop-less c = search needs
 
 loop-again : tie.Need-loop-again Inv-loop μ-loop
 loop-again c =
@@ -47,9 +29,6 @@ loop-again c =
     let v : getD (l .s) (l .i + w) 0 ≡ getD (drop w m) (l .i) 0 =
     rw (f .bytes, past-seam (drop w m) m (l .i) w (f .below) (omega (arith, f .below, f .room)), getD-drop) (ap (λ (k : ℕ). getD m k 0) (omega arith)) in
     (l .inv .0, seam-more _ f (omega arith) v)
-
-same-length : tie.Need-same-length Inv-loop μ-loop
-same-length c = search needs
 
 returns : tie.Need-returns Inv-loop μ-loop
 returns c =
@@ -63,13 +42,13 @@ shift-down-spec =
     (tie.spec
     Inv-loop
     μ-loop
-    sub-n
+    (λ c. search needs)
     loop-holds
-    add-s
-    slice-read-s
-    slice-write-s
-    add-i
-    loop-less
+    (λ c. search needs)
+    (λ c. search needs)
+    (λ c. search needs)
+    (λ c. search needs)
+    (λ c. search needs)
     loop-again
-    same-length
+    (λ c. search needs)
     returns)

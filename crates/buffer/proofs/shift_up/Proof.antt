@@ -13,34 +13,13 @@ Inv-loop s₀ w i₀ s i = Rise s₀ w (length s₀ - w) i s
 abbrev μ-loop : tie.MeasureT-loop
 μ-loop s₀ w i₀ s i = i
 
-sub-i : tie.Need-sub-i Inv-loop μ-loop
-sub-i c = search needs
-
 loop-holds : tie.Need-loop-holds Inv-loop μ-loop
 loop-holds c =
     rise-none (c .args .s .now) (c .args .w) _ (omega arith)
 
-sub-i-2 : tie.Need-sub-i-2 Inv-loop μ-loop
-sub-i-2 c = search needs
-
-slice-read-s : tie.Need-slice-read-s Inv-loop μ-loop
-slice-read-s c = search needs
-
-add-s : tie.Need-add-s Inv-loop μ-loop
-add-s c = search needs
-
-slice-write-s : tie.Need-slice-write-s Inv-loop μ-loop
-slice-write-s c = search needs
-
-loop-less : tie.Need-loop-less Inv-loop μ-loop
-loop-less c = search needs
-
 loop-again : tie.Need-loop-again Inv-loop μ-loop
 loop-again c =
     rise-more (c .before .before .loop .inv) (c .before .loop-test .taken)
-
-same-length : tie.Need-same-length Inv-loop μ-loop
-same-length c = search needs
 
 returns : tie.Need-returns Inv-loop μ-loop
 returns c = rise-all (c .before .loop .inv) (omega arith) (omega arith)
@@ -51,13 +30,13 @@ shift-up-spec =
     (tie.spec
     Inv-loop
     μ-loop
-    sub-i
+    (λ c. search needs)
     loop-holds
-    sub-i-2
-    slice-read-s
-    add-s
-    slice-write-s
-    loop-less
+    (λ c. search needs)
+    (λ c. search needs)
+    (λ c. search needs)
+    (λ c. search needs)
+    (λ c. search needs)
     loop-again
-    same-length
+    (λ c. search needs)
     returns)

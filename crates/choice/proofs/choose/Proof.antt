@@ -7,9 +7,6 @@ use borrow.Author.Needs.{needs}
 use Rattle.choice.proofs.choose.Statement.{statement}
 use Rattle.choice.proofs.choose.Tie as tie
 
-rules-requires : tie.Need-rules-requires
-rules-requires c κs = search needs
-
 rule-count-requires : tie.Need-rule-count-requires
 rule-count-requires c κs = let b = c .before .before .before in numbers (b .args .plan .now) (b .pre) .header
 
@@ -27,4 +24,4 @@ returns c =
     c .choose .ensures ∙ ap (chosenPlace (b .args .class) (b .args .digits .now)) (rules-are (b .args .plan .now) _ _ (c .before .before .rules .ensures) (c .before .rule-count .ensures .is))
 
 pub choose-spec : {M : Type 1} → statement M
-choose-spec = tie.close (tie.spec rules-requires rule-count-requires choose-requires returns)
+choose-spec = tie.close (tie.spec (λ c κs. search needs) rule-count-requires choose-requires returns)

@@ -18,19 +18,10 @@ Inv-loop cas prefix n left₀ i₀ left i = (i ≤ length cas) × (short prefix 
 abbrev μ-loop : tie.MeasureT-loop
 μ-loop cas prefix n left₀ i₀ left i = length cas - i
 
-loop-holds : tie.Need-loop-holds Inv-loop μ-loop
-loop-holds c = search needs
-
-action-at-requires : tie.Need-action-at-requires Inv-loop μ-loop
-action-at-requires c κs = search needs
-
 returns : tie.Need-returns Inv-loop μ-loop
 returns c =
     let l = c .before .before .before in
     stop (short (l .before .before .args .prefix) (l .loop .left)) (c .before .before .action-at .ensures) (c .if1 .taken) (l .loop .inv .1)
-
-meets-too-few-requires : tie.Need-meets-too-few-requires Inv-loop μ-loop
-meets-too-few-requires c κs = search needs
 
 returns-2 : tie.Need-returns-2 Inv-loop μ-loop
 returns-2 c =
@@ -38,9 +29,6 @@ returns-2 c =
     let read = c .before .before .before .before .action-at .ensures in
     let s = step (short (l .before .before .args .prefix) (l .loop .left)) read (c .before .before .if1 .left) (l .loop .inv .1) in
     rw (sym (c .before .meets-too-few .ensures) ∙ c .if2 .taken) at (s .1)
-
-width-requires : tie.Need-width-requires Inv-loop μ-loop
-width-requires c κs = search needs
 
 sub-left : tie.Need-sub-left Inv-loop μ-loop
 sub-left c =
@@ -67,12 +55,12 @@ is-short-spec =
     (tie.spec
     Inv-loop
     μ-loop
-    loop-holds
-    action-at-requires
+    (λ c. search needs)
+    (λ c κs. search needs)
     returns
-    meets-too-few-requires
+    (λ c κs. search needs)
     returns-2
-    width-requires
+    (λ c κs. search needs)
     sub-left
     add-i
     loop-less

@@ -40,15 +40,6 @@ enough-here c =
 loop-holds : tie.Need-loop-holds Inv-loop μ-loop
 loop-holds c = let p = c .before .before .before .pre in (search needs, search needs, search needs, p .starts-long, p .counts-long, marking-none p)
 
-action-at-requires : tie.Need-action-at-requires Inv-loop μ-loop
-action-at-requires c κs = search needs
-
-same-length : tie.Need-same-length Inv-loop μ-loop
-same-length c = search needs
-
-same-length-2 : tie.Need-same-length-2 Inv-loop μ-loop
-same-length-2 c = search needs
-
 returns : tie.Need-returns Inv-loop μ-loop
 returns c =
     let l = c .before .before .before in
@@ -57,15 +48,6 @@ returns c =
       short-is = stop (short (l .before .before .before .before .args .prefix) (l .loop .left)) read (c .if1 .taken) (l .loop .inv .2);
       marked = λ _. marking-all (λ v. rw (read .ends (c .if1 .taken)) at (l .loop .inv .5 v));
     }
-
-meets-too-few-requires : tie.Need-meets-too-few-requires Inv-loop μ-loop
-meets-too-few-requires c κs = search needs
-
-same-length-3 : tie.Need-same-length-3 Inv-loop μ-loop
-same-length-3 c = search needs
-
-same-length-4 : tie.Need-same-length-4 Inv-loop μ-loop
-same-length-4 c = search needs
 
 returns-2 : tie.Need-returns-2 Inv-loop μ-loop
 returns-2 c =
@@ -76,12 +58,6 @@ returns-2 c =
       short-is = rw (sym (c .before .meets-too-few .ensures) ∙ c .if2 .taken) at (s .1);
       marked = λ z. absurd (true≢false z);
     }
-
-width-requires : tie.Need-width-requires Inv-loop μ-loop
-width-requires c κs = search needs
-
-value-taken-requires : tie.Need-value-taken-requires Inv-loop μ-loop
-value-taken-requires c κs = search needs
 
 add-mark : tie.Need-add-mark Inv-loop μ-loop
 add-mark c =
@@ -131,16 +107,16 @@ mark-spans-spec =
     Inv-loop
     μ-loop
     loop-holds
-    action-at-requires
-    same-length
-    same-length-2
+    (λ c κs. search needs)
+    (λ c. search needs)
+    (λ c. search needs)
     returns
-    meets-too-few-requires
-    same-length-3
-    same-length-4
+    (λ c κs. search needs)
+    (λ c. search needs)
+    (λ c. search needs)
     returns-2
-    width-requires
-    value-taken-requires
+    (λ c κs. search needs)
+    (λ c κs. search needs)
     add-mark
     mark-requires
     add-taken

@@ -4,9 +4,6 @@ use borrow.Author.Needs.{needs}
 use Rattle.conditioning.proofs.span_in.Statement.{statement}
 use Rattle.conditioning.proofs.span_in.Tie as tie
 
-is-short-requires : tie.Need-is-short-requires
-is-short-requires c κs = search needs
-
 returns : tie.Need-returns
 returns c = rw (sym (c .before .is-short .ensures) ∙ c .if1 .taken) (record { same = refl; inside = search needs })
 
@@ -17,4 +14,4 @@ returns-2 : tie.Need-returns-2
 returns-2 c = rw (sym (c .before .before .is-short .ensures) ∙ c .before .if1 .left) (c .span-of .ensures)
 
 pub span-in-spec : {M : Type 1} → statement M
-span-in-spec = tie.close (tie.spec is-short-requires returns span-of-requires returns-2)
+span-in-spec = tie.close (tie.spec (λ c κs. search needs) returns span-of-requires returns-2)

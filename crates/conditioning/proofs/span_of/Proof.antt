@@ -33,9 +33,6 @@ enough-here c =
 loop-holds : tie.Need-loop-holds Inv-loop μ-loop
 loop-holds c = (search needs, search needs, c .before .pre, refl)
 
-action-at-requires : tie.Need-action-at-requires Inv-loop μ-loop
-action-at-requires c κs = search needs
-
 returns : tie.Need-returns Inv-loop μ-loop
 unfolding stretchOf
 returns c =
@@ -43,12 +40,6 @@ returns c =
     let args = l .before .before .args in
     let s = stop (stretchFrom (args .v) (args .prefix) (l .loop .at) (l .loop .left)) (c .before .before .action-at .ensures) (c .if1 .taken) (l .loop .inv .3) in
     record { same = ap spanOf s; inside = search needs }
-
-width-requires : tie.Need-width-requires Inv-loop μ-loop
-width-requires c κs = search needs
-
-takes-value-requires : tie.Need-takes-value-requires Inv-loop μ-loop
-takes-value-requires c κs = search needs
 
 returns-2 : tie.Need-returns-2 Inv-loop μ-loop
 unfolding stretchOf
@@ -96,10 +87,10 @@ span-of-spec =
     Inv-loop
     μ-loop
     loop-holds
-    action-at-requires
+    (λ c κs. search needs)
     returns
-    width-requires
-    takes-value-requires
+    (λ c κs. search needs)
+    (λ c κs. search needs)
     returns-2
     add-at
     sub-left

@@ -13,9 +13,6 @@ returns c =
     let args = c .before .before .args in
     sym (ccdef-takes-none (args .v) (actionOf (args .a)) (c .if1 .taken))
 
-value-of-requires : tie.Need-value-of-requires
-value-of-requires c κs = search needs
-
 returns-2 : tie.Need-returns-2
 returns-2 c =
     let args = c .before .before .before .args in
@@ -23,4 +20,4 @@ returns-2 c =
     ∙ sym (takes-its-value (args .v) (actionOf (args .a)) (c .before .if1 .left))
 
 pub takes-value-spec : {M : Type 1} → statement M
-takes-value-spec = tie.close (tie.spec returns value-of-requires returns-2)
+takes-value-spec = tie.close (tie.spec returns (λ c κs. search needs) returns-2)

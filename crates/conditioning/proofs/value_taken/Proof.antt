@@ -8,17 +8,8 @@ use Rattle.conditioning.proofs.value_taken.Tie as tie
 returns : tie.Need-returns
 returns c = takes-unlisted (actionOf (c .before .args .a)) (c .if1 .taken)
 
-mul-result : tie.Need-mul-result
-mul-result c = search needs
-
-cast-result : tie.Need-cast-result
-cast-result c = search needs
-
-shr-result : tie.Need-shr-result
-shr-result c = search needs
-
 returns-2 : tie.Need-returns-2
 returns-2 c = takes-listed (actionOf (c .before .args .a)) (c .if1 .left)
 
 pub value-taken-spec : {M : Type 1} → statement M
-value-taken-spec = tie.close (tie.spec returns mul-result cast-result shr-result returns-2)
+value-taken-spec = tie.close (tie.spec returns (λ c. search needs) (λ c. search needs) (λ c. search needs) returns-2)

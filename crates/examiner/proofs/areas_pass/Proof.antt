@@ -14,17 +14,11 @@ use borrow.Author.Needs.{needs}
 use Rattle.examiner.proofs.areas_pass.Statement.{statement}
 use Rattle.examiner.proofs.areas_pass.Tie as tie
 
-slots-pass-requires : tie.Need-slots-pass-requires
-slots-pass-requires c κs = search needs
-
 returns : tie.Need-returns
 unfolding areasPass
 returns c =
     let a = c .before .before .before .before .args in
     sym (all-false 0 (areasTests (a .room) (a .sets .now) (a .count) (a .rules .now)) (failed (c .before .slots-pass .ensures) (c .if1 .taken)))
-
-rules-pass-requires : tie.Need-rules-pass-requires
-rules-pass-requires c κs = search needs
 
 returns-2 : tie.Need-returns-2
 unfolding areasPass
@@ -46,21 +40,6 @@ returns-3 c =
     let a = c .before .before .before .before .before .before .before .before .args in
     sym (all-false 2 (areasTests (a .room) (a .sets .now) (a .count) (a .rules .now)) (failed (c .before .rules-rise .ensures) (c .if3 .taken)))
 
-mul-free : tie.Need-mul-free
-mul-free c = search needs
-
-sub-all-zero : tie.Need-sub-all-zero
-sub-all-zero c = search needs
-
-part-all-zero-start : tie.Need-part-all-zero-start
-part-all-zero-start c = search needs
-
-part-all-zero-end : tie.Need-part-all-zero-end
-part-all-zero-end c = search needs
-
-all-zero-requires : tie.Need-all-zero-requires
-all-zero-requires c κs = search needs
-
 returns-4 : tie.Need-returns-4
 unfolding areasPass
 returns-4 c =
@@ -80,15 +59,15 @@ pub areas-pass-spec : {M : Type 1} → statement M
 areas-pass-spec =
     tie.close
     (tie.spec
-    slots-pass-requires
+    (λ c κs. search needs)
     returns
-    rules-pass-requires
+    (λ c κs. search needs)
     returns-2
     rules-rise-requires
     returns-3
-    mul-free
-    sub-all-zero
-    part-all-zero-start
-    part-all-zero-end
-    all-zero-requires
+    (λ c. search needs)
+    (λ c. search needs)
+    (λ c. search needs)
+    (λ c. search needs)
+    (λ c κs. search needs)
     returns-4)

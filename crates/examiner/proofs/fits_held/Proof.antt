@@ -5,54 +5,15 @@ use borrow.Author.Needs.{needs}
 use Rattle.examiner.proofs.fits_held.Statement.{statement}
 use Rattle.examiner.proofs.fits_held.Tie as tie
 
-word-requires : tie.Need-word-requires
-word-requires c κs = search needs
-
 returns : tie.Need-returns
 returns c =
     let a = c .before .before .before .before .args in
     sym (no-set (a .room) _ (a .sets .now) (a .slot .now) (c .before .word .ensures .is) (c .if1 .taken))
 
-mul-a : tie.Need-mul-a
-mul-a c = search needs
-
-shared-slice-read-if2 : tie.Need-shared-slice-read-if2
-shared-slice-read-if2 c = search needs
-
 returns-2 : tie.Need-returns-2
 returns-2 c =
     let a = c .before .before .before .before .before .before .args in
     sym (empty-set (a .room) _ (a .sets .now) (a .slot .now) (c .before .before .before .word .ensures .is) (c .before .before .if1 .left) (c .if2 .taken))
-
-shared-slice-read-wide : tie.Need-shared-slice-read-wide
-shared-slice-read-wide c = search needs
-
-wide-requires : tie.Need-wide-requires
-wide-requires c κs = search needs
-
-shared-slice-read-wide-2 : tie.Need-shared-slice-read-wide-2
-shared-slice-read-wide-2 c = search needs
-
-wide-requires-2 : tie.Need-wide-requires-2
-wide-requires-2 c κs = search needs
-
-add-b : tie.Need-add-b
-add-b c = search needs
-
-add-e : tie.Need-add-e
-add-e c = search needs
-
-sub-fits-content : tie.Need-sub-fits-content
-sub-fits-content c = search needs
-
-part-fits-content-start : tie.Need-part-fits-content-start
-part-fits-content-start c = search needs
-
-part-fits-content-end : tie.Need-part-fits-content-end
-part-fits-content-end c = search needs
-
-fits-content-requires : tie.Need-fits-content-requires
-fits-content-requires c κs = search needs
 
 returns-3 : tie.Need-returns-3
 returns-3 c =
@@ -66,19 +27,19 @@ pub fits-held-spec : {M : Type 1} → statement M
 fits-held-spec =
     tie.close
     (tie.spec
-    word-requires
+    (λ c κs. search needs)
     returns
-    mul-a
-    shared-slice-read-if2
+    (λ c. search needs)
+    (λ c. search needs)
     returns-2
-    shared-slice-read-wide
-    wide-requires
-    shared-slice-read-wide-2
-    wide-requires-2
-    add-b
-    add-e
-    sub-fits-content
-    part-fits-content-start
-    part-fits-content-end
-    fits-content-requires
+    (λ c. search needs)
+    (λ c κs. search needs)
+    (λ c. search needs)
+    (λ c κs. search needs)
+    (λ c. search needs)
+    (λ c. search needs)
+    (λ c. search needs)
+    (λ c. search needs)
+    (λ c. search needs)
+    (λ c κs. search needs)
     returns-3)

@@ -14,24 +14,15 @@ returns : tie.Need-returns
 unfolding headerPasses
 returns c = sym (all-false 0 (headerTests (c .before .before .args .memory .now)) (lt-leb SETS-AT _ (c .if1 .taken)))
 
-fixed-pass-requires : tie.Need-fixed-pass-requires
-fixed-pass-requires c κs = search needs
-
 returns-2 : tie.Need-returns-2
 unfolding headerPasses
 returns-2 c =
     sym (all-false 1 (headerTests (c .before .before .before .before .args .memory .now)) (failed (c .before .fixed-pass .ensures) (c .if2 .taken)))
 
-opening-passes-requires : tie.Need-opening-passes-requires
-opening-passes-requires c κs = search needs
-
 returns-3 : tie.Need-returns-3
 unfolding headerPasses
 returns-3 c =
     sym (all-false 2 (headerTests (c .before .before .before .before .before .before .args .memory .now)) (failed (c .before .opening-passes .ensures) (c .if3 .taken)))
-
-sizes-pass-requires : tie.Need-sizes-pass-requires
-sizes-pass-requires c κs = search needs
 
 returns-4 : tie.Need-returns-4
 unfolding headerPasses
@@ -50,9 +41,9 @@ header-passes-spec =
     tie.close
     (tie.spec
     returns
-    fixed-pass-requires
+    (λ c κs. search needs)
     returns-2
-    opening-passes-requires
+    (λ c κs. search needs)
     returns-3
-    sizes-pass-requires
+    (λ c κs. search needs)
     returns-4)

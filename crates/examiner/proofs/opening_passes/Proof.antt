@@ -8,34 +8,10 @@ use borrow.Author.Needs.{needs}
 use Rattle.examiner.proofs.opening_passes.Statement.{statement}
 use Rattle.examiner.proofs.opening_passes.Tie as tie
 
-sub-rooms-in-range : tie.Need-sub-rooms-in-range
-sub-rooms-in-range c = search needs
-
-part-rooms-in-range-start : tie.Need-part-rooms-in-range-start
-part-rooms-in-range-start c = search needs
-
-part-rooms-in-range-end : tie.Need-part-rooms-in-range-end
-part-rooms-in-range-end c = search needs
-
-rooms-in-range-requires : tie.Need-rooms-in-range-requires
-rooms-in-range-requires c κs = search needs
-
 returns : tie.Need-returns
 unfolding openingPasses
 returns c =
     sym (all-false 0 (openingTests (c .before .before .before .before .args .memory .now)) (failed (c .before .rooms-in-range .ensures) (c .if1 .taken)))
-
-sub-settings-in-range : tie.Need-sub-settings-in-range
-sub-settings-in-range c = search needs
-
-part-settings-in-range-start : tie.Need-part-settings-in-range-start
-part-settings-in-range-start c = search needs
-
-part-settings-in-range-end : tie.Need-part-settings-in-range-end
-part-settings-in-range-end c = search needs
-
-settings-in-range-requires : tie.Need-settings-in-range-requires
-settings-in-range-requires c κs = search needs
 
 returns-2 : tie.Need-returns-2
 unfolding openingPasses
@@ -46,13 +22,13 @@ pub opening-passes-spec : {M : Type 1} → statement M
 opening-passes-spec =
     tie.close
     (tie.spec
-    sub-rooms-in-range
-    part-rooms-in-range-start
-    part-rooms-in-range-end
-    rooms-in-range-requires
+    (λ c. search needs)
+    (λ c. search needs)
+    (λ c. search needs)
+    (λ c κs. search needs)
     returns
-    sub-settings-in-range
-    part-settings-in-range-start
-    part-settings-in-range-end
-    settings-in-range-requires
+    (λ c. search needs)
+    (λ c. search needs)
+    (λ c. search needs)
+    (λ c κs. search needs)
     returns-2)

@@ -11,26 +11,11 @@ use borrow.Author.Needs.{needs}
 use Rattle.examiner.proofs.rule_passes.Statement.{statement}
 use Rattle.examiner.proofs.rule_passes.Tie as tie
 
-filter-in-range-by-requires : tie.Need-filter-in-range-by-requires
-filter-in-range-by-requires c κs = search needs
-
 returns : tie.Need-returns
 unfolding ruleTest ruleOf
 returns c =
     let a = c .before .before .before .before .before .args in
     sym (all-false 0 (ruleTests (a .room) (a .sets .now) (a .slot .now)) (failed (c .before .filter-in-range-by .ensures) (c .if1 .taken)))
-
-sub-all-zero : tie.Need-sub-all-zero
-sub-all-zero c = search needs
-
-part-all-zero-start : tie.Need-part-all-zero-start
-part-all-zero-start c = search needs
-
-part-all-zero-end : tie.Need-part-all-zero-end
-part-all-zero-end c = search needs
-
-all-zero-requires : tie.Need-all-zero-requires
-all-zero-requires c κs = search needs
 
 returns-2 : tie.Need-returns-2
 unfolding ruleTest
@@ -59,12 +44,12 @@ pub rule-passes-spec : {M : Type 1} → statement M
 rule-passes-spec =
     tie.close
     (tie.spec
-    filter-in-range-by-requires
+    (λ c κs. search needs)
     returns
-    sub-all-zero
-    part-all-zero-start
-    part-all-zero-end
-    all-zero-requires
+    (λ c. search needs)
+    (λ c. search needs)
+    (λ c. search needs)
+    (λ c κs. search needs)
     returns-2
     fits-held-requires
     returns-3)

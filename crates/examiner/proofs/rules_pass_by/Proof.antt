@@ -20,36 +20,12 @@ abbrev μ-loop : tie.MeasureT-loop
 loop-holds : tie.Need-loop-holds Inv-loop μ-loop
 loop-holds c = (zero-le, refl)
 
-mul-a : tie.Need-mul-a Inv-loop μ-loop
-mul-a c = search needs
-
-add-e : tie.Need-add-e Inv-loop μ-loop
-add-e c = search needs
-
-sub-rule-passes : tie.Need-sub-rule-passes Inv-loop μ-loop
-sub-rule-passes c = search needs
-
-part-rule-passes-start : tie.Need-part-rule-passes-start Inv-loop μ-loop
-part-rule-passes-start c = search needs
-
-part-rule-passes-end : tie.Need-part-rule-passes-end Inv-loop μ-loop
-part-rule-passes-end c = search needs
-
-rule-passes-requires : tie.Need-rule-passes-requires Inv-loop μ-loop
-rule-passes-requires c κs = search needs
-
 returns : tie.Need-returns Inv-loop μ-loop
 returns c =
     let a = c .before .before .before .before .before .before .before .before .args in
     let l = c .before .before .before .before .loop in
     sym (slot-fail (ruleTest (a .room) (a .sets .now)) RULE-WIDTH (a .count) (l .i) (a .rules .now) _ (c .before .rule-passes .ensures)
     (c .before .before .before .loop-test .taken) (l .inv .1) (not-true _ (c .if1 .taken)))
-
-add-i : tie.Need-add-i Inv-loop μ-loop
-add-i c = search needs
-
-loop-less : tie.Need-loop-less Inv-loop μ-loop
-loop-less c = search needs
 
 loop-again : tie.Need-loop-again Inv-loop μ-loop
 loop-again c =
@@ -73,14 +49,14 @@ rules-pass-by-spec =
     Inv-loop
     μ-loop
     loop-holds
-    mul-a
-    add-e
-    sub-rule-passes
-    part-rule-passes-start
-    part-rule-passes-end
-    rule-passes-requires
+    (λ c. search needs)
+    (λ c. search needs)
+    (λ c. search needs)
+    (λ c. search needs)
+    (λ c. search needs)
+    (λ c κs. search needs)
     returns
-    add-i
-    loop-less
+    (λ c. search needs)
+    (λ c. search needs)
     loop-again
     returns-2)

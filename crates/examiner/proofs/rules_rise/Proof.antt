@@ -20,47 +20,11 @@ abbrev μ-loop : tie.MeasureT-loop
 loop-holds : tie.Need-loop-holds Inv-loop μ-loop
 loop-holds c = (zero-le, risen-none (c .before .args .count) (c .before .args .rules .now))
 
-add-loop : tie.Need-add-loop Inv-loop μ-loop
-add-loop c = search needs
-
-mul-a : tie.Need-mul-a Inv-loop μ-loop
-mul-a c = search needs
-
-add-b : tie.Need-add-b Inv-loop μ-loop
-add-b c = search needs
-
-add-e : tie.Need-add-e Inv-loop μ-loop
-add-e c = search needs
-
-sub-order-filters : tie.Need-sub-order-filters Inv-loop μ-loop
-sub-order-filters c = search needs
-
-part-order-filters-start : tie.Need-part-order-filters-start Inv-loop μ-loop
-part-order-filters-start c = search needs
-
-part-order-filters-end : tie.Need-part-order-filters-end Inv-loop μ-loop
-part-order-filters-end c = search needs
-
-sub-order-filters-2 : tie.Need-sub-order-filters-2 Inv-loop μ-loop
-sub-order-filters-2 c = search needs
-
-part-order-filters-start-2 : tie.Need-part-order-filters-start-2 Inv-loop μ-loop
-part-order-filters-start-2 c = search needs
-
-part-order-filters-end-2 : tie.Need-part-order-filters-end-2 Inv-loop μ-loop
-part-order-filters-end-2 c = search needs
-
 order-filters-requires : tie.Need-order-filters-requires Inv-loop μ-loop
 order-filters-requires c κs =
     let g = c .before .before .before .before .before in
     let i = c .before .before .before .loop .i in
     (slot-bytes (g .args .count) i (g .args .rules .now) (g .pre) (omega arith), next-bytes (g .args .count) i (g .args .rules .now) (g .pre) (omega arith))
-
-enum-told : tie.Need-enum-told Inv-loop μ-loop
-enum-told c = search needs
-
-enum-told-2 : tie.Need-enum-told-2 Inv-loop μ-loop
-enum-told-2 c = search needs
 
 returns : tie.Need-returns Inv-loop μ-loop
 returns c =
@@ -70,9 +34,6 @@ returns c =
     sym (risen-not (a .count) (l .i) (a .rules .now) (l .inv .1) _ (omega arith) (c .before .before .order-filters .ensures)
     (ap (λ (o : Order). isLt (orderingOf o)) (c .enum-told2 .given .1)))
 
-enum-told-3 : tie.Need-enum-told-3 Inv-loop μ-loop
-enum-told-3 c = search needs
-
 returns-2 : tie.Need-returns-2 Inv-loop μ-loop
 returns-2 c =
     let t = c .before .before .before .before .before in
@@ -80,12 +41,6 @@ returns-2 c =
     let l = t .before .loop in
     sym (risen-not (a .count) (l .i) (a .rules .now) (l .inv .1) _ (omega arith) (c .before .before .order-filters .ensures)
     (ap (λ (o : Order). isLt (orderingOf o)) (c .enum-told3 .given .1)))
-
-add-i : tie.Need-add-i Inv-loop μ-loop
-add-i c = search needs
-
-loop-less : tie.Need-loop-less Inv-loop μ-loop
-loop-less c = search needs
 
 loop-again : tie.Need-loop-again Inv-loop μ-loop
 loop-again c =
@@ -110,23 +65,23 @@ rules-rise-spec =
     Inv-loop
     μ-loop
     loop-holds
-    add-loop
-    mul-a
-    add-b
-    add-e
-    sub-order-filters
-    part-order-filters-start
-    part-order-filters-end
-    sub-order-filters-2
-    part-order-filters-start-2
-    part-order-filters-end-2
+    (λ c. search needs)
+    (λ c. search needs)
+    (λ c. search needs)
+    (λ c. search needs)
+    (λ c. search needs)
+    (λ c. search needs)
+    (λ c. search needs)
+    (λ c. search needs)
+    (λ c. search needs)
+    (λ c. search needs)
     order-filters-requires
-    enum-told
-    enum-told-2
+    (λ c. search needs)
+    (λ c. search needs)
     returns
-    enum-told-3
+    (λ c. search needs)
     returns-2
-    add-i
-    loop-less
+    (λ c. search needs)
+    (λ c. search needs)
     loop-again
     returns-3)

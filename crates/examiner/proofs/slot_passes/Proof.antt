@@ -9,12 +9,6 @@ use borrow.Author.Needs.{needs}
 use Rattle.examiner.proofs.slot_passes.Statement.{statement}
 use Rattle.examiner.proofs.slot_passes.Tie as tie
 
-shared-slice-read-held : tie.Need-shared-slice-read-held
-shared-slice-read-held c = search needs
-
-all-zero-requires : tie.Need-all-zero-requires
-all-zero-requires c κs = search needs
-
 returns : tie.Need-returns
 returns c = c .all-zero .ensures ∙ sym (empty-slot (c .before .before .before .before .args .slot .now) (c .before .if1 .taken))
 
@@ -23,51 +17,15 @@ returns-2 c =
     let s = c .before .before .before .before .args .slot .now in
     sym (held-slot s (c .before .if1 .left) ∙ all-false 0 (heldTests s) (held-many _ (c .if2 .taken)))
 
-sub-content-in-range : tie.Need-sub-content-in-range
-sub-content-in-range c = search needs
-
-part-content-in-range-start : tie.Need-part-content-in-range-start
-part-content-in-range-start c = search needs
-
-part-content-in-range-end : tie.Need-part-content-in-range-end
-part-content-in-range-end c = search needs
-
-content-in-range-requires : tie.Need-content-in-range-requires
-content-in-range-requires c κs = search needs
-
 returns-3 : tie.Need-returns-3
 returns-3 c =
     let s = c .before .before .before .before .before .before .before .args .slot .now in
     sym (held-slot s (c .before .before .before .before .if1 .left) ∙ all-false 1 (heldTests s) (failed (c .before .content-in-range .ensures) (c .if3 .taken)))
 
-sub-groups-hold : tie.Need-sub-groups-hold
-sub-groups-hold c = search needs
-
-part-groups-hold-start : tie.Need-part-groups-hold-start
-part-groups-hold-start c = search needs
-
-part-groups-hold-end : tie.Need-part-groups-hold-end
-part-groups-hold-end c = search needs
-
-groups-hold-requires : tie.Need-groups-hold-requires
-groups-hold-requires c κs = search needs
-
 returns-4 : tie.Need-returns-4
 returns-4 c =
     let s = c .before .before .before .before .before .before .before .before .before .before .args .slot .now in
     sym (held-slot s (c .before .before .before .before .before .before .before .if1 .left) ∙ all-false 2 (heldTests s) (failed (c .before .groups-hold .ensures) (c .if4 .taken)))
-
-sub-all-zero : tie.Need-sub-all-zero
-sub-all-zero c = search needs
-
-part-all-zero-start : tie.Need-part-all-zero-start
-part-all-zero-start c = search needs
-
-part-all-zero-end : tie.Need-part-all-zero-end
-part-all-zero-end c = search needs
-
-all-zero-requires-2 : tie.Need-all-zero-requires-2
-all-zero-requires-2 c κs = search needs
 
 returns-5 : tie.Need-returns-5
 returns-5 c =
@@ -88,22 +46,22 @@ pub slot-passes-spec : {M : Type 1} → statement M
 slot-passes-spec =
     tie.close
     (tie.spec
-    shared-slice-read-held
-    all-zero-requires
+    (λ c. search needs)
+    (λ c κs. search needs)
     returns
     returns-2
-    sub-content-in-range
-    part-content-in-range-start
-    part-content-in-range-end
-    content-in-range-requires
+    (λ c. search needs)
+    (λ c. search needs)
+    (λ c. search needs)
+    (λ c κs. search needs)
     returns-3
-    sub-groups-hold
-    part-groups-hold-start
-    part-groups-hold-end
-    groups-hold-requires
+    (λ c. search needs)
+    (λ c. search needs)
+    (λ c. search needs)
+    (λ c κs. search needs)
     returns-4
-    sub-all-zero
-    part-all-zero-start
-    part-all-zero-end
-    all-zero-requires-2
+    (λ c. search needs)
+    (λ c. search needs)
+    (λ c. search needs)
+    (λ c κs. search needs)
     returns-5)

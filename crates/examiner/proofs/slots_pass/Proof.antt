@@ -20,36 +20,12 @@ abbrev μ-loop : tie.MeasureT-loop
 loop-holds : tie.Need-loop-holds Inv-loop μ-loop
 loop-holds c = (zero-le, refl)
 
-mul-a : tie.Need-mul-a Inv-loop μ-loop
-mul-a c = search needs
-
-add-e : tie.Need-add-e Inv-loop μ-loop
-add-e c = search needs
-
-sub-slot-passes : tie.Need-sub-slot-passes Inv-loop μ-loop
-sub-slot-passes c = search needs
-
-part-slot-passes-start : tie.Need-part-slot-passes-start Inv-loop μ-loop
-part-slot-passes-start c = search needs
-
-part-slot-passes-end : tie.Need-part-slot-passes-end Inv-loop μ-loop
-part-slot-passes-end c = search needs
-
-slot-passes-requires : tie.Need-slot-passes-requires Inv-loop μ-loop
-slot-passes-requires c κs = search needs
-
 returns : tie.Need-returns Inv-loop μ-loop
 returns c =
     let a = c .before .before .before .before .before .before .args in
     let l = c .before .before .before .before .loop in
     sym (slot-fail slotTest SET-WIDTH (a .room) (l .i) (a .sets .now) _ (c .before .slot-passes .ensures) (c .before .before .before .loop-test .taken)
     (l .inv .1) (not-true _ (c .if1 .taken)))
-
-add-i : tie.Need-add-i Inv-loop μ-loop
-add-i c = search needs
-
-loop-less : tie.Need-loop-less Inv-loop μ-loop
-loop-less c = search needs
 
 loop-again : tie.Need-loop-again Inv-loop μ-loop
 loop-again c =
@@ -73,14 +49,14 @@ slots-pass-spec =
     Inv-loop
     μ-loop
     loop-holds
-    mul-a
-    add-e
-    sub-slot-passes
-    part-slot-passes-start
-    part-slot-passes-end
-    slot-passes-requires
+    (λ c. search needs)
+    (λ c. search needs)
+    (λ c. search needs)
+    (λ c. search needs)
+    (λ c. search needs)
+    (λ c κs. search needs)
     returns
-    add-i
-    loop-less
+    (λ c. search needs)
+    (λ c. search needs)
     loop-again
     returns-2)

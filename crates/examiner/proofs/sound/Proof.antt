@@ -9,31 +9,16 @@ use borrow.Author.Needs.{needs}
 use Rattle.examiner.proofs.sound.Statement.{statement}
 use Rattle.examiner.proofs.sound.Tie as tie
 
-header-passes-requires : tie.Need-header-passes-requires
-header-passes-requires c κs = search needs
-
 returns : tie.Need-returns
 returns c =
     let g = c .before .before in
     sym (header-fails (g .before .args .memory .now) (λ i. omega (arith, g .shared-slice-known .given i)) (failed (c .before .header-passes .ensures) (c .if1 .taken)))
-
-sub-rooms : tie.Need-sub-rooms
-sub-rooms c = search needs
-
-part-rooms-start : tie.Need-part-rooms-start
-part-rooms-start c = search needs
 
 part-rooms-end : tie.Need-part-rooms-end
 part-rooms-end c =
     let m = c .before .before .before .args .memory .now in
     let h = header-parts m (true-is _ (passed (c .before .header-passes .ensures) (c .if1 .left))) in
     omega arith
-
-word-requires : tie.Need-word-requires
-word-requires c κs = search needs
-
-word-requires-2 : tie.Need-word-requires-2
-word-requires-2 c κs = search needs
 
 word-requires-3 : tie.Need-word-requires-3
 word-requires-3 c κs =
@@ -60,13 +45,13 @@ pub sound-spec : {M : Type 1} → statement M
 sound-spec =
     tie.close
     (tie.spec
-    header-passes-requires
+    (λ c κs. search needs)
     returns
-    sub-rooms
-    part-rooms-start
+    (λ c. search needs)
+    (λ c. search needs)
     part-rooms-end
-    word-requires
-    word-requires-2
+    (λ c κs. search needs)
+    (λ c κs. search needs)
     word-requires-3
     body-passes-requires
     returns-2)

@@ -6,80 +6,11 @@ use borrow.Author.Needs.{needs}
 use Rattle.filter.proofs.order_filters.Statement.{statement}
 use Rattle.filter.proofs.order_filters.Tie as tie
 
-shared-slice-read-if1 : tie.Need-shared-slice-read-if1
-shared-slice-read-if1 c = search needs
-
-shared-slice-read-if1-2 : tie.Need-shared-slice-read-if1-2
-shared-slice-read-if1-2 c = search needs
-
 returns : tie.Need-returns
 returns c = let a = c .before .before .before .before .before .args in sym (class-less (a .a .now) (a .b .now) (c .if1 .taken))
 
-shared-slice-read-if2 : tie.Need-shared-slice-read-if2
-shared-slice-read-if2 c = search needs
-
-shared-slice-read-if2-2 : tie.Need-shared-slice-read-if2-2
-shared-slice-read-if2-2 c = search needs
-
 returns-2 : tie.Need-returns-2
 returns-2 c = let a = c .before .before .before .before .before .before .before .before .args in sym (class-more (a .a .now) (a .b .now) (c .if2 .taken))
-
-shared-slice-read-wide : tie.Need-shared-slice-read-wide
-shared-slice-read-wide c = search needs
-
-wide-requires : tie.Need-wide-requires
-wide-requires c κs = search needs
-
-add-ea : tie.Need-add-ea
-add-ea c = search needs
-
-shared-slice-read-wide-2 : tie.Need-shared-slice-read-wide-2
-shared-slice-read-wide-2 c = search needs
-
-wide-requires-2 : tie.Need-wide-requires-2
-wide-requires-2 c κs = search needs
-
-add-eb : tie.Need-add-eb
-add-eb c = search needs
-
-sub-order-prefixes : tie.Need-sub-order-prefixes
-sub-order-prefixes c = search needs
-
-part-order-prefixes-start : tie.Need-part-order-prefixes-start
-part-order-prefixes-start c = search needs
-
-part-order-prefixes-end : tie.Need-part-order-prefixes-end
-part-order-prefixes-end c = search needs
-
-sub-order-prefixes-2 : tie.Need-sub-order-prefixes-2
-sub-order-prefixes-2 c = search needs
-
-part-order-prefixes-start-2 : tie.Need-part-order-prefixes-start-2
-part-order-prefixes-start-2 c = search needs
-
-part-order-prefixes-end-2 : tie.Need-part-order-prefixes-end-2
-part-order-prefixes-end-2 c = search needs
-
-order-prefixes-requires : tie.Need-order-prefixes-requires
-order-prefixes-requires c κs = search needs
-
-enum-told : tie.Need-enum-told
-enum-told c = search needs
-
-enum-told-2 : tie.Need-enum-told-2
-enum-told-2 c = search needs
-
-enum-told-3 : tie.Need-enum-told-3
-enum-told-3 c = search needs
-
-shared-slice-read-order-lengths : tie.Need-shared-slice-read-order-lengths
-shared-slice-read-order-lengths c = search needs
-
-shared-slice-read-order-lengths-2 : tie.Need-shared-slice-read-order-lengths-2
-shared-slice-read-order-lengths-2 c = search needs
-
-order-lengths-requires : tie.Need-order-lengths-requires
-order-lengths-requires c κs = search needs
 
 returns-3 : tie.Need-returns-3
 returns-3 c =
@@ -113,31 +44,31 @@ pub order-filters-spec : {M : Type 1} → statement M
 order-filters-spec =
     tie.close
     (tie.spec
-    shared-slice-read-if1
-    shared-slice-read-if1-2
+    (λ c. search needs)
+    (λ c. search needs)
     returns
-    shared-slice-read-if2
-    shared-slice-read-if2-2
+    (λ c. search needs)
+    (λ c. search needs)
     returns-2
-    shared-slice-read-wide
-    wide-requires
-    add-ea
-    shared-slice-read-wide-2
-    wide-requires-2
-    add-eb
-    sub-order-prefixes
-    part-order-prefixes-start
-    part-order-prefixes-end
-    sub-order-prefixes-2
-    part-order-prefixes-start-2
-    part-order-prefixes-end-2
-    order-prefixes-requires
-    enum-told
-    enum-told-2
-    enum-told-3
-    shared-slice-read-order-lengths
-    shared-slice-read-order-lengths-2
-    order-lengths-requires
+    (λ c. search needs)
+    (λ c κs. search needs)
+    (λ c. search needs)
+    (λ c. search needs)
+    (λ c κs. search needs)
+    (λ c. search needs)
+    (λ c. search needs)
+    (λ c. search needs)
+    (λ c. search needs)
+    (λ c. search needs)
+    (λ c. search needs)
+    (λ c. search needs)
+    (λ c κs. search needs)
+    (λ c. search needs)
+    (λ c. search needs)
+    (λ c. search needs)
+    (λ c. search needs)
+    (λ c. search needs)
+    (λ c κs. search needs)
     returns-3
     returns-4
     returns-5)

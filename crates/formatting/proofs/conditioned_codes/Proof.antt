@@ -5,15 +5,9 @@ use borrow.Author.Needs.{needs}
 use Rattle.formatting.proofs.conditioned_codes.Statement.{statement}
 use Rattle.formatting.proofs.conditioned_codes.Tie as tie
 
-is-set-requires : tie.Need-is-set-requires
-is-set-requires c κs = search needs
-
 returns : tie.Need-returns
 unfolding conditionedCodes
 returns c = rw (sym (c .before .is-set .ensures) ∙ c .if1 .taken)
-
-is-set-requires-2 : tie.Need-is-set-requires-2
-is-set-requires-2 c κs = search needs
 
 returns-2 : tie.Need-returns-2
 unfolding conditionedCodes
@@ -25,4 +19,4 @@ returns-3 c = rw (sym (c .before .before .before .is-set .ensures) ∙ c .before
 
 pub conditioned-codes-spec : {M : Type 1} → statement M
 conditioned-codes-spec =
-    tie.close (tie.spec is-set-requires returns is-set-requires-2 returns-2 returns-3)
+    tie.close (tie.spec (λ c κs. search needs) returns (λ c κs. search needs) returns-2 returns-3)

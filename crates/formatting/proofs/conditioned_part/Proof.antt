@@ -10,20 +10,11 @@ use borrow.Author.Needs.{needs}
 use Rattle.formatting.proofs.conditioned_part.Statement.{statement}
 use Rattle.formatting.proofs.conditioned_part.Tie as tie
 
-has-code-requires : tie.Need-has-code-requires
-has-code-requires c κs = search needs
-
-country-of-requires : tie.Need-country-of-requires
-country-of-requires c κs = search needs
-
 returns : tie.Need-returns
 returns c =
     let a = c .before .before .before .before .before .before .before .args in
     let default = sym (c .before .before .before .has-code .ensures) ∙ c .before .before .if1 .taken in
     c .country-of .ensures ∙ value-default (settingsOf (a .settings .now) .country) (a .digits .now) (a .prefix) (a .v) (casOf (a .cas .now)) (eqb-true (a .v) 1 (c .before .if2 .taken)) default
-
-stretch-in-requires : tie.Need-stretch-in-requires
-stretch-in-requires c κs = search needs
 
 returns-2 : tie.Need-returns-2
 returns-2 c =
@@ -37,4 +28,4 @@ returns-2 c =
 pub conditioned-part-spec : {M : Type 1} → statement M
 conditioned-part-spec =
     tie.close
-    (tie.spec has-code-requires country-of-requires returns stretch-in-requires returns-2)
+    (tie.spec (λ c κs. search needs) (λ c κs. search needs) returns (λ c κs. search needs) returns-2)

@@ -29,28 +29,13 @@ loop-holds c =
     let a = c .before .before .before .before .before .args in
     (search needs, search needs, search needs, joining-none _ (a .fas .now) (a .out .now))
 
-code-at-requires : tie.Need-code-at-requires Inv-loop μ-loop
-code-at-requires c κs = search needs
-
-same-length : tie.Need-same-length Inv-loop μ-loop
-same-length c = search needs
-
 returns : tie.Need-returns Inv-loop μ-loop
 returns c =
     let a = c .before .before .before .before .before .before .before .before .args in
     joined (c .before .before .loop .inv .3) (a .most) (c .before .code-at .ensures .ends (c .if1 .taken)) (c .before .before .loop .inv .1)
 
-value-to-send-requires : tie.Need-value-to-send-requires Inv-loop μ-loop
-value-to-send-requires c κs = search needs
-
 add-if2 : tie.Need-add-if2 Inv-loop μ-loop
 add-if2 c = let v = lies-here c in omega (arith, v .few, c .before .before .before .loop .inv .1, c .before .before .before .before .before .before .before .before .before .pre .1)
-
-add-result : tie.Need-add-result Inv-loop μ-loop
-add-result c = search needs
-
-same-length-2 : tie.Need-same-length-2 Inv-loop μ-loop
-same-length-2 c = search needs
 
 returns-2 : tie.Need-returns-2 Inv-loop μ-loop
 returns-2 c =
@@ -58,27 +43,12 @@ returns-2 c =
     let v = lies-here (c .before) in
     (joined-long (c .before .before .before .before .loop .inv .3) (a .most) (c .before .before .before .code-at .ensures .goes (c .before .before .if1 .left)) _ (v .count) (c .if2 .taken) _)
 
-sub-put-value : tie.Need-sub-put-value Inv-loop μ-loop
-sub-put-value c = search needs
-
-part-put-value-start : tie.Need-part-put-value-start Inv-loop μ-loop
-part-put-value-start c = search needs
-
-part-put-value-end : tie.Need-part-put-value-end Inv-loop μ-loop
-part-put-value-end c = search needs
-
 put-value-requires : tie.Need-put-value-requires Inv-loop μ-loop
 put-value-requires c κs =
     let g = c .before .before .before .before .before .before .before .before .before .before .before in
     let l = c .before .before .before .before .before .loop in
     let v = lies-here (c .before .before) in
     (record { long = g .pre .0 .long; low = v .low; few = v .few }, search needs)
-
-add-end : tie.Need-add-end Inv-loop μ-loop
-add-end c = search needs
-
-add-i : tie.Need-add-i Inv-loop μ-loop
-add-i c = search needs
 
 loop-less : tie.Need-loop-less Inv-loop μ-loop
 loop-less c = omega (arith, c .before .before .before .before .before .before .before .code-at .ensures .inside (c .before .before .before .before .before .before .if1 .left))
@@ -101,19 +71,19 @@ join-placed-spec =
     Inv-loop
     μ-loop
     loop-holds
-    code-at-requires
-    same-length
+    (λ c κs. search needs)
+    (λ c. search needs)
     returns
-    value-to-send-requires
+    (λ c κs. search needs)
     add-if2
-    add-result
-    same-length-2
+    (λ c. search needs)
+    (λ c. search needs)
     returns-2
-    sub-put-value
-    part-put-value-start
-    part-put-value-end
+    (λ c. search needs)
+    (λ c. search needs)
+    (λ c. search needs)
     put-value-requires
-    add-end
-    add-i
+    (λ c. search needs)
+    (λ c. search needs)
     loop-less
     loop-again)

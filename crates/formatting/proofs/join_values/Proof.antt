@@ -6,22 +6,10 @@ use borrow.Author.Needs.{needs}
 use Rattle.formatting.proofs.join_values.Statement.{statement}
 use Rattle.formatting.proofs.join_values.Tie as tie
 
-place-values-requires : tie.Need-place-values-requires
-place-values-requires c κs = search needs
-
 join-placed-requires : tie.Need-join-placed-requires
 join-placed-requires c κs =
     let g = c .before .before .before .before .before .before .before .before .before .before .before .before .before .before .before .before in
     (c .before .before .before .before .before .before .before .place-values .ensures .table, g .pre .1, g .pre .2)
-
-same-length : tie.Need-same-length
-same-length c = search needs
-
-same-length-2 : tie.Need-same-length-2
-same-length-2 c = search needs
-
-same-length-3 : tie.Need-same-length-3
-same-length-3 c = search needs
 
 returns : tie.Need-returns
 returns c =
@@ -32,9 +20,9 @@ pub join-values-spec : {M : Type 1} → statement M
 join-values-spec =
     tie.close
     (tie.spec
-    place-values-requires
+    (λ c κs. search needs)
     join-placed-requires
-    same-length
-    same-length-2
-    same-length-3
+    (λ c. search needs)
+    (λ c. search needs)
+    (λ c. search needs)
     returns)

@@ -5,30 +5,6 @@ use borrow.Author.Needs.{needs}
 use Rattle.formatting.proofs.place_country.Statement.{statement}
 use Rattle.formatting.proofs.place_country.Tie as tie
 
-has-code-requires : tie.Need-has-code-requires
-has-code-requires c κs = search needs
-
-string-at-requires : tie.Need-string-at-requires
-string-at-requires c κs = search needs
-
-cast-starts : tie.Need-cast-starts
-cast-starts c = search needs
-
-slice-write-starts : tie.Need-slice-write-starts
-slice-write-starts c = search needs
-
-cast-counts : tie.Need-cast-counts
-cast-counts c = search needs
-
-slice-write-counts : tie.Need-slice-write-counts
-slice-write-counts c = search needs
-
-same-length : tie.Need-same-length
-same-length c = search needs
-
-same-length-2 : tie.Need-same-length-2
-same-length-2 c = search needs
-
 returns : tie.Need-returns
 returns c =
     let g = c .before .before .before .before .before .before .before .before .before in
@@ -44,13 +20,13 @@ pub place-country-spec : {M : Type 1} → statement M
 place-country-spec =
     tie.close
     (tie.spec
-    has-code-requires
-    string-at-requires
-    cast-starts
-    slice-write-starts
-    cast-counts
-    slice-write-counts
-    same-length
-    same-length-2
+    (λ c κs. search needs)
+    (λ c κs. search needs)
+    (λ c. search needs)
+    (λ c. search needs)
+    (λ c. search needs)
+    (λ c. search needs)
+    (λ c. search needs)
+    (λ c. search needs)
     returns
     returns-2)

@@ -24,42 +24,12 @@ loop-holds c =
     let g = c .before .before .before in
     (search needs, search needs, g .pre .long, g .pre .starts-long, g .pre .counts-long, serving-none (g .args .served) (g .pre))
 
-service-value-requires : tie.Need-service-value-requires Inv-loop μ-loop
-service-value-requires c κs = search needs
-
-wide-requires : tie.Need-wide-requires Inv-loop μ-loop
-wide-requires c κs = search needs
-
-cast-starts : tie.Need-cast-starts Inv-loop μ-loop
-cast-starts c = search needs
-
-slice-write-starts : tie.Need-slice-write-starts Inv-loop μ-loop
-slice-write-starts c = search needs
-
-cast-counts : tie.Need-cast-counts Inv-loop μ-loop
-cast-counts c = search needs
-
-slice-write-counts : tie.Need-slice-write-counts Inv-loop μ-loop
-slice-write-counts c = search needs
-
-add-f : tie.Need-add-f Inv-loop μ-loop
-add-f c = search needs
-
-loop-less : tie.Need-loop-less Inv-loop μ-loop
-loop-less c = search needs
-
 loop-again : tie.Need-loop-again Inv-loop μ-loop
 loop-again c =
     let l = c .before .before .before .before .before .loop in
     let below = c .before .before .before .before .loop-test .taken in
     let g = serving-more (l .inv .5) (l .inv .0) below _ (c .before .before .wide .ensures .is) _ (c .before .before .before .service-value .ensures) in
     (omega (arith, l .inv .0), omega (arith, below), l .inv .2, search needs, search needs, g)
-
-same-length : tie.Need-same-length Inv-loop μ-loop
-same-length c = search needs
-
-same-length-2 : tie.Need-same-length-2 Inv-loop μ-loop
-same-length-2 c = search needs
 
 returns : tie.Need-returns Inv-loop μ-loop
 returns c = serving-all (c .before .loop .inv .5) (c .loop-test .left)
@@ -71,15 +41,15 @@ place-services-spec =
     Inv-loop
     μ-loop
     loop-holds
-    service-value-requires
-    wide-requires
-    cast-starts
-    slice-write-starts
-    cast-counts
-    slice-write-counts
-    add-f
-    loop-less
+    (λ c κs. search needs)
+    (λ c κs. search needs)
+    (λ c. search needs)
+    (λ c. search needs)
+    (λ c. search needs)
+    (λ c. search needs)
+    (λ c. search needs)
+    (λ c. search needs)
     loop-again
-    same-length
-    same-length-2
+    (λ c. search needs)
+    (λ c. search needs)
     returns)

@@ -4,17 +4,8 @@ use borrow.Author.Needs.{needs}
 use Rattle.formatting.proofs.place_values.Statement.{statement}
 use Rattle.formatting.proofs.place_values.Tie as tie
 
-place-country-requires : tie.Need-place-country-requires
-place-country-requires c κs = search needs
-
 place-services-requires : tie.Need-place-services-requires
 place-services-requires c κs = c .before .before .before .before .before .before .place-country .ensures .table
-
-same-length : tie.Need-same-length
-same-length c = search needs
-
-same-length-2 : tie.Need-same-length-2
-same-length-2 c = search needs
 
 returns : tie.Need-returns
 returns c =
@@ -25,8 +16,8 @@ pub place-values-spec : {M : Type 1} → statement M
 place-values-spec =
     tie.close
     (tie.spec
-    place-country-requires
+    (λ c κs. search needs)
     place-services-requires
-    same-length
-    same-length-2
+    (λ c. search needs)
+    (λ c. search needs)
     returns)

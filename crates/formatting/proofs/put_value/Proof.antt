@@ -8,45 +8,6 @@ use borrow.Author.Needs.{needs}
 use Rattle.formatting.proofs.put_value.Statement.{statement}
 use Rattle.formatting.proofs.put_value.Tie as tie
 
-sub-copy-sixteen : tie.Need-sub-copy-sixteen
-sub-copy-sixteen c = search needs
-
-part-copy-sixteen-start : tie.Need-part-copy-sixteen-start
-part-copy-sixteen-start c = search needs
-
-part-copy-sixteen-end : tie.Need-part-copy-sixteen-end
-part-copy-sixteen-end c = search needs
-
-copy-sixteen-requires : tie.Need-copy-sixteen-requires
-copy-sixteen-requires c κs = search needs
-
-add-second : tie.Need-add-second
-add-second c = search needs
-
-sub-copy-sixteen-2 : tie.Need-sub-copy-sixteen-2
-sub-copy-sixteen-2 c = search needs
-
-part-copy-sixteen-start-2 : tie.Need-part-copy-sixteen-start-2
-part-copy-sixteen-start-2 c = search needs
-
-part-copy-sixteen-end-2 : tie.Need-part-copy-sixteen-end-2
-part-copy-sixteen-end-2 c = search needs
-
-sub-copy-sixteen-3 : tie.Need-sub-copy-sixteen-3
-sub-copy-sixteen-3 c = search needs
-
-part-copy-sixteen-start-3 : tie.Need-part-copy-sixteen-start-3
-part-copy-sixteen-start-3 c = search needs
-
-part-copy-sixteen-end-3 : tie.Need-part-copy-sixteen-end-3
-part-copy-sixteen-end-3 c = search needs
-
-copy-sixteen-requires-2 : tie.Need-copy-sixteen-requires-2
-copy-sixteen-requires-2 c κs = search needs
-
-same-length : tie.Need-same-length
-same-length c = search needs
-
 returns : tie.Need-returns
 returns c =
     let g = c .before .before .before .before .before .before .before .before .before .before .before .before .before .before in
@@ -64,9 +25,6 @@ returns c =
     (written-behind (take 16 (take k (drop start source))) (take 16 (take j (drop (start + 16) source))) out 16 (c .before .before .before .before .before .before .before .before .before .copy-sixteen .ensures) (first-long source out start count k h j i room) (omega (arith, long, g .pre .1)) _
     (c .before .before .copy-sixteen2 .ensures))
 
-same-length-2 : tie.Need-same-length-2
-same-length-2 c = search needs
-
 returns-2 : tie.Need-returns-2
 returns-2 c =
     let g = c .before .before .before .before .before .before .before .before .before in
@@ -79,19 +37,19 @@ pub put-value-spec : {M : Type 1} → statement M
 put-value-spec =
     tie.close
     (tie.spec
-    sub-copy-sixteen
-    part-copy-sixteen-start
-    part-copy-sixteen-end
-    copy-sixteen-requires
-    add-second
-    sub-copy-sixteen-2
-    part-copy-sixteen-start-2
-    part-copy-sixteen-end-2
-    sub-copy-sixteen-3
-    part-copy-sixteen-start-3
-    part-copy-sixteen-end-3
-    copy-sixteen-requires-2
-    same-length
+    (λ c. search needs)
+    (λ c. search needs)
+    (λ c. search needs)
+    (λ c κs. search needs)
+    (λ c. search needs)
+    (λ c. search needs)
+    (λ c. search needs)
+    (λ c. search needs)
+    (λ c. search needs)
+    (λ c. search needs)
+    (λ c. search needs)
+    (λ c κs. search needs)
+    (λ c. search needs)
     returns
-    same-length-2
+    (λ c. search needs)
     returns-2)

@@ -9,21 +9,12 @@ use borrow.Author.Needs.{needs}
 use Rattle.formatting.proofs.routing_number.Statement.{statement}
 use Rattle.formatting.proofs.routing_number.Tie as tie
 
-shared-slice-read-kind : tie.Need-shared-slice-read-kind
-shared-slice-read-kind c = search needs
-
-string-if-requires : tie.Need-string-if-requires
-string-if-requires c κs = search needs
-
 returns : tie.Need-returns
 returns c =
     let a = c .before .before .before .before .args in
     let s = a .source .now in
     let e = ap (digitsIf (a .ported)) (sym (part-within 1 16 LOOKUP-AT LOOKUP-BYTES s (omega arith))) ∙ rn-entity (settingsIn s) (lookupIn s) (a .ported) (kind-in s ∙ c .before .if1 .taken) in
     lies-as e (c .string-if .ensures)
-
-string-if-requires-2 : tie.Need-string-if-requires-2
-string-if-requires-2 c κs = search needs
 
 returns-2 : tie.Need-returns-2
 returns-2 c =
@@ -42,9 +33,9 @@ pub routing-number-spec : {M : Type 1} → statement M
 routing-number-spec =
     tie.close
     (tie.spec
-    shared-slice-read-kind
-    string-if-requires
+    (λ c. search needs)
+    (λ c κs. search needs)
     returns
-    string-if-requires-2
+    (λ c κs. search needs)
     returns-2
     returns-3)

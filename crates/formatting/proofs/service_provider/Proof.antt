@@ -9,12 +9,6 @@ use borrow.Author.Needs.{needs}
 use Rattle.formatting.proofs.service_provider.Statement.{statement}
 use Rattle.formatting.proofs.service_provider.Tie as tie
 
-shared-slice-read-if1 : tie.Need-shared-slice-read-if1
-shared-slice-read-if1 c = search needs
-
-string-if-requires : tie.Need-string-if-requires
-string-if-requires c κs = search needs
-
 returns : tie.Need-returns
 returns c =
     let a = c .before .before .before .before .args in
@@ -30,4 +24,4 @@ returns-2 c =
 
 pub service-provider-spec : {M : Type 1} → statement M
 service-provider-spec =
-    tie.close (tie.spec shared-slice-read-if1 string-if-requires returns returns-2)
+    tie.close (tie.spec (λ c. search needs) (λ c κs. search needs) returns returns-2)

@@ -15,24 +15,6 @@ use borrow.Author.Needs.{needs}
 use Rattle.formatting.proofs.service_value.Statement.{statement}
 use Rattle.formatting.proofs.service_value.Tie as tie
 
-routing-number-requires : tie.Need-routing-number-requires
-routing-number-requires c κs = search needs
-
-service-provider-requires : tie.Need-service-provider-requires
-service-provider-requires c κs = search needs
-
-string-if-requires : tie.Need-string-if-requires
-string-if-requires c κs = search needs
-
-string-if-requires-2 : tie.Need-string-if-requires-2
-string-if-requires-2 c κs = search needs
-
-string-at-requires : tie.Need-string-at-requires
-string-at-requires c κs = search needs
-
-string-at-requires-2 : tie.Need-string-at-requires-2
-string-at-requires-2 c κs = search needs
-
 returns : tie.Need-returns
 unfolding valueToSend stageOf
 returns c = rw (c .before .match .keys1) (c .routing-number .ensures)
@@ -76,12 +58,12 @@ pub service-value-spec : {M : Type 1} → statement M
 service-value-spec =
     tie.close
     (tie.spec
-    routing-number-requires
-    service-provider-requires
-    string-if-requires
-    string-if-requires-2
-    string-at-requires
-    string-at-requires-2
+    (λ c κs. search needs)
+    (λ c κs. search needs)
+    (λ c κs. search needs)
+    (λ c κs. search needs)
+    (λ c κs. search needs)
+    (λ c κs. search needs)
     returns
     returns-2
     returns-3

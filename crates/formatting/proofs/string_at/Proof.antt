@@ -4,22 +4,10 @@ use borrow.Author.Needs.{needs}
 use Rattle.formatting.proofs.string_at.Statement.{statement}
 use Rattle.formatting.proofs.string_at.Tie as tie
 
-shared-slice-read-wide : tie.Need-shared-slice-read-wide
-shared-slice-read-wide c = search needs
-
-wide-requires : tie.Need-wide-requires
-wide-requires c κs = search needs
-
-add-t8 : tie.Need-add-t8
-add-t8 c = search needs
-
 returns : tie.Need-returns
 returns c =
     let g = c .before .before .before .before in
     string-full (g .args .source .now) (g .args .at) (g .args .width) _ (g .pre .0) (g .pre .1) (g .pre .2) (c .before .wide .ensures .is) (c .if1 .taken)
-
-add-t9 : tie.Need-add-t9
-add-t9 c = search needs
 
 returns-2 : tie.Need-returns-2
 returns-2 c =
@@ -28,4 +16,4 @@ returns-2 c =
 
 pub string-at-spec : {M : Type 1} → statement M
 string-at-spec =
-    tie.close (tie.spec shared-slice-read-wide wide-requires add-t8 returns add-t9 returns-2)
+    tie.close (tie.spec (λ c. search needs) (λ c κs. search needs) (λ c. search needs) returns (λ c. search needs) returns-2)

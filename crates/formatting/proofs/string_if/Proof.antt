@@ -4,9 +4,6 @@ use borrow.Author.Needs.{needs}
 use Rattle.formatting.proofs.string_if.Statement.{statement}
 use Rattle.formatting.proofs.string_if.Tie as tie
 
-string-at-requires : tie.Need-string-at-requires
-string-at-requires c κs = search needs
-
 returns : tie.Need-returns
 returns c = rw (c .before .if1 .taken) (c .string-at .ensures)
 
@@ -14,4 +11,4 @@ returns-2 : tie.Need-returns-2
 returns-2 c = rw (c .if1 .left) (nothing-lies (c .before .before .args .source .now))
 
 pub string-if-spec : {M : Type 1} → statement M
-string-if-spec = tie.close (tie.spec string-at-requires returns returns-2)
+string-if-spec = tie.close (tie.spec (λ c κs. search needs) returns returns-2)

@@ -8,21 +8,6 @@ use Rattle.formatting.proofs.value_to_send.Tie as tie
 returns : tie.Need-returns
 returns c = rw (lt-leb (c .before .before .before .args .f) DELIMITER-B (c .if1 .taken))
 
-wide-requires : tie.Need-wide-requires
-wide-requires c κs = search needs
-
-shared-slice-read-wide : tie.Need-shared-slice-read-wide
-shared-slice-read-wide c = search needs
-
-wide-requires-2 : tie.Need-wide-requires-2
-wide-requires-2 c κs = search needs
-
-shared-slice-read-wide-2 : tie.Need-shared-slice-read-wide-2
-shared-slice-read-wide-2 c = search needs
-
-wide-requires-3 : tie.Need-wide-requires-3
-wide-requires-3 c κs = search needs
-
 returns-2 : tie.Need-returns-2
 returns-2 c =
     let g = c .before .before .before .before .before .before .before .before in
@@ -33,9 +18,9 @@ value-to-send-spec =
     tie.close
     (tie.spec
     returns
-    wide-requires
-    shared-slice-read-wide
-    wide-requires-2
-    shared-slice-read-wide-2
-    wide-requires-3
+    (λ c κs. search needs)
+    (λ c. search needs)
+    (λ c κs. search needs)
+    (λ c. search needs)
+    (λ c κs. search needs)
     returns-2)

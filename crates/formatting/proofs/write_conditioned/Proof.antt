@@ -18,23 +18,11 @@ Inv-loop settings digits cas prefix out₀ codes end₀ i₀ out end i =
 abbrev μ-loop : tie.MeasureT-loop
 μ-loop settings digits cas prefix out₀ codes end₀ i₀ out end i = 3 - i
 
-conditioned-codes-requires : tie.Need-conditioned-codes-requires Inv-loop μ-loop
-conditioned-codes-requires c κs = search needs
-
 loop-holds : tie.Need-loop-holds Inv-loop μ-loop
 loop-holds c =
     let g = c .before .before .before .before .before in
     let a = g .args in
     (search needs, search needs, search needs, search needs, conditioned-room (a .settings .now) (a .digits .now) (a .cas .now) (a .prefix) (c .conditioned-codes .result) (c .conditioned-codes .ensures) (g .pre .1), over-none _ _ (a .out .now))
-
-slice-aggregate-code-at : tie.Need-slice-aggregate-code-at Inv-loop μ-loop
-slice-aggregate-code-at c = search needs
-
-code-at-requires : tie.Need-code-at-requires Inv-loop μ-loop
-code-at-requires c κs = search needs
-
-same-length : tie.Need-same-length Inv-loop μ-loop
-same-length c = search needs
 
 returns : tie.Need-returns Inv-loop μ-loop
 returns c =
@@ -42,18 +30,6 @@ returns c =
     let codes = c .before .before .before .before .conditioned-codes in
     conditioned-writes (a .settings .now) (a .digits .now) (a .cas .now) (a .prefix) (codes .result) (codes .ensures)
     (over-all (c .before .before .before .loop .inv .5) (c .before .code-at .ensures .ends (c .if1 .taken)))
-
-conditioned-part-requires : tie.Need-conditioned-part-requires Inv-loop μ-loop
-conditioned-part-requires c κs = search needs
-
-sub-copy : tie.Need-sub-copy Inv-loop μ-loop
-sub-copy c = search needs
-
-part-copy-start : tie.Need-part-copy-start Inv-loop μ-loop
-part-copy-start c = search needs
-
-part-copy-end : tie.Need-part-copy-end Inv-loop μ-loop
-part-copy-end c = search needs
 
 copy-requires : tie.Need-copy-requires Inv-loop μ-loop
 copy-requires c κs =
@@ -66,9 +42,6 @@ add-end c =
     let l = c .before .before .before .before .before .before .before .before .loop in
     let goes = c .before .before .before .before .before .before .code-at .ensures .goes (c .before .before .before .before .before .if1 .left) in
     omega (arith, over-room (l .inv .5) goes _ (c .before .before .before .before .conditioned-part .ensures) (l .inv .4))
-
-add-i : tie.Need-add-i Inv-loop μ-loop
-add-i c = search needs
 
 loop-less : tie.Need-loop-less Inv-loop μ-loop
 loop-less c = omega (arith, c .before .before .before .before .before .before .before .before .loop .inv .0, c .before .before .before .before .before .before .code-at .ensures .inside (c .before .before .before .before .before .if1 .left))
@@ -87,18 +60,18 @@ write-conditioned-spec =
     (tie.spec
     Inv-loop
     μ-loop
-    conditioned-codes-requires
+    (λ c κs. search needs)
     loop-holds
-    slice-aggregate-code-at
-    code-at-requires
-    same-length
+    (λ c. search needs)
+    (λ c κs. search needs)
+    (λ c. search needs)
     returns
-    conditioned-part-requires
-    sub-copy
-    part-copy-start
-    part-copy-end
+    (λ c κs. search needs)
+    (λ c. search needs)
+    (λ c. search needs)
+    (λ c. search needs)
     copy-requires
     add-end
-    add-i
+    (λ c. search needs)
     loop-less
     loop-again)

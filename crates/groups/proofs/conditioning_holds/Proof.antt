@@ -9,40 +9,25 @@ use Rattle.groups.specs.Rules.{caRules}
 use Rattle.groups.proofs.conditioning_holds.Statement.{statement}
 use Rattle.groups.proofs.conditioning_holds.Tie as tie
 
-format-stands-requires : tie.Need-format-stands-requires
-format-stands-requires c κs = search needs
-
 returns : tie.Need-returns
 returns c =
     let r = caRules (casOf (c .before .before .before .args .cas .now)) in
     sym (all-false 0 r (sym (c .before .format-stands .ensures) ∙ not-true _ (c .if1 .taken)))
-
-each-value-once-requires : tie.Need-each-value-once-requires
-each-value-once-requires c κs = search needs
 
 returns-2 : tie.Need-returns-2
 returns-2 c =
     let r = caRules (casOf (c .before .before .before .before .before .args .cas .now)) in
     sym (all-false 1 r (sym (c .before .each-value-once .ensures) ∙ not-true _ (c .if2 .taken)))
 
-fpfx-first-requires : tie.Need-fpfx-first-requires
-fpfx-first-requires c κs = search needs
-
 returns-3 : tie.Need-returns-3
 returns-3 c =
     let r = caRules (casOf (c .before .before .before .before .before .before .before .args .cas .now)) in
     sym (all-false 2 r (sym (c .before .fpfx-first .ensures) ∙ not-true _ (c .if3 .taken)))
 
-one-x-action-requires : tie.Need-one-x-action-requires
-one-x-action-requires c κs = search needs
-
 returns-4 : tie.Need-returns-4
 returns-4 c =
     let r = caRules (casOf (c .before .before .before .before .before .before .before .before .before .args .cas .now)) in
     sym (all-false 3 r (sym (c .before .one-x-action .ensures) ∙ not-true _ (c .if4 .taken)))
-
-only-ccdef-after-x-requires : tie.Need-only-ccdef-after-x-requires
-only-ccdef-after-x-requires c κs = search needs
 
 returns-5 : tie.Need-returns-5
 returns-5 c =
@@ -59,13 +44,13 @@ pub conditioning-holds-spec : {M : Type 1} → statement M
 conditioning-holds-spec =
     tie.close
     (tie.spec
-    format-stands-requires
+    (λ c κs. search needs)
     returns
-    each-value-once-requires
+    (λ c κs. search needs)
     returns-2
-    fpfx-first-requires
+    (λ c κs. search needs)
     returns-3
-    one-x-action-requires
+    (λ c κs. search needs)
     returns-4
-    only-ccdef-after-x-requires
+    (λ c κs. search needs)
     returns-5)

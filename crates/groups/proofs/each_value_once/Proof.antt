@@ -18,12 +18,6 @@ Inv-loop cas i₀ i = (i ≤ length cas) × (eachValueOnce (casOf (drop i cas)) 
 abbrev μ-loop : tie.MeasureT-loop
 μ-loop cas i₀ i = length cas - i
 
-loop-holds : tie.Need-loop-holds Inv-loop μ-loop
-loop-holds c = search needs
-
-action-at-requires : tie.Need-action-at-requires Inv-loop μ-loop
-action-at-requires c κs = search needs
-
 returns : tie.Need-returns Inv-loop μ-loop
 returns c =
     let l = c .before .before .before in
@@ -40,9 +34,6 @@ part-not-set-again-start c = omega (arith, c .before .before .action-at .ensures
 
 part-not-set-again-end : tie.Need-part-not-set-again-end Inv-loop μ-loop
 part-not-set-again-end c = omega (arith, c .before .before .action-at .ensures .inside (c .if1 .left))
-
-not-set-again-requires : tie.Need-not-set-again-requires Inv-loop μ-loop
-not-set-again-requires c κs = search needs
 
 returns-2 : tie.Need-returns-2 Inv-loop μ-loop
 returns-2 c =
@@ -69,14 +60,14 @@ each-value-once-spec =
     (tie.spec
     Inv-loop
     μ-loop
-    loop-holds
-    action-at-requires
+    (λ c. search needs)
+    (λ c κs. search needs)
     returns
     add-i
     sub-not-set-again
     part-not-set-again-start
     part-not-set-again-end
-    not-set-again-requires
+    (λ c κs. search needs)
     returns-2
     loop-less
     loop-again)

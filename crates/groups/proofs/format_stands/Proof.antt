@@ -5,30 +5,9 @@ use Rattle.meaning.specs.Groups.{formatStands}
 use Rattle.groups.proofs.format_stands.Statement.{statement}
 use Rattle.groups.proofs.format_stands.Tie as tie
 
-no-conditioning-requires : tie.Need-no-conditioning-requires
-no-conditioning-requires c κs = search needs
-
 returns : tie.Need-returns
 unfolding formatStands
 returns c = rw (sym (c .before .no-conditioning .ensures) ∙ c .if1 .taken)
-
-is-set-requires : tie.Need-is-set-requires
-is-set-requires c κs = search needs
-
-is-set-requires-2 : tie.Need-is-set-requires-2
-is-set-requires-2 c κs = search needs
-
-is-set-requires-3 : tie.Need-is-set-requires-3
-is-set-requires-3 c κs = search needs
-
-is-set-requires-4 : tie.Need-is-set-requires-4
-is-set-requires-4 c κs = search needs
-
-is-set-requires-5 : tie.Need-is-set-requires-5
-is-set-requires-5 c κs = search needs
-
-one-format-requires : tie.Need-one-format-requires
-one-format-requires c κs = search needs
 
 returns-2 : tie.Need-returns-2
 unfolding formatStands
@@ -48,12 +27,12 @@ pub format-stands-spec : {M : Type 1} → statement M
 format-stands-spec =
     tie.close
     (tie.spec
-    no-conditioning-requires
+    (λ c κs. search needs)
     returns
-    is-set-requires
-    is-set-requires-2
-    is-set-requires-3
-    is-set-requires-4
-    is-set-requires-5
-    one-format-requires
+    (λ c κs. search needs)
+    (λ c κs. search needs)
+    (λ c κs. search needs)
+    (λ c κs. search needs)
+    (λ c κs. search needs)
+    (λ c κs. search needs)
     returns-2)

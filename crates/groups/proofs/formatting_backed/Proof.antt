@@ -20,23 +20,11 @@ Inv-loop content fas i₀ i =
 abbrev μ-loop : tie.MeasureT-loop
 μ-loop content fas i₀ i = length fas - i
 
-fas-of-requires : tie.Need-fas-of-requires Inv-loop μ-loop
-fas-of-requires c κs = search needs
-
-loop-holds : tie.Need-loop-holds Inv-loop μ-loop
-loop-holds c = search needs
-
-code-at-requires : tie.Need-code-at-requires Inv-loop μ-loop
-code-at-requires c κs = search needs
-
 returns : tie.Need-returns Inv-loop μ-loop
 unfolding formattingBacked actionsOf
 returns c =
     let l = c .before .before in
     rw (l .before .fas-of .ensures) at (stop (all (isBacked (actionsOf (l .before .before .before .args .content .now)))) (c .before .code-at .ensures) (c .if1 .taken) (l .loop .inv .1))
-
-is-backed-requires : tie.Need-is-backed-requires Inv-loop μ-loop
-is-backed-requires c κs = search needs
 
 returns-2 : tie.Need-returns-2 Inv-loop μ-loop
 unfolding formattingBacked actionsOf
@@ -69,11 +57,11 @@ formatting-backed-spec =
     (tie.spec
     Inv-loop
     μ-loop
-    fas-of-requires
-    loop-holds
-    code-at-requires
+    (λ c κs. search needs)
+    (λ c. search needs)
+    (λ c κs. search needs)
     returns
-    is-backed-requires
+    (λ c κs. search needs)
     returns-2
     add-i
     loop-less

@@ -8,9 +8,6 @@ use Rattle.buffer.proofs.ListLaws.{rest-is}
 use Rattle.groups.proofs.fpfx_first.Statement.{statement}
 use Rattle.groups.proofs.fpfx_first.Tie as tie
 
-action-at-requires : tie.Need-action-at-requires
-action-at-requires c κs = search needs
-
 returns : tie.Need-returns
 unfolding fpfxFirst
 returns c = sym (ap fpfxFirst (c .before .before .action-at .ensures .ends (c .if1 .taken)))
@@ -24,9 +21,6 @@ part-has-code-start c = omega (arith, c .before .before .action-at .ensures .ins
 part-has-code-end : tie.Need-part-has-code-end
 part-has-code-end c = omega (arith, c .before .before .action-at .ensures .inside (c .if1 .left))
 
-has-code-requires : tie.Need-has-code-requires
-has-code-requires c κs = search needs
-
 returns-2 : tie.Need-returns-2
 unfolding fpfxFirst
 returns-2 c =
@@ -37,10 +31,10 @@ pub fpfx-first-spec : {M : Type 1} → statement M
 fpfx-first-spec =
     tie.close
     (tie.spec
-    action-at-requires
+    (λ c κs. search needs)
     returns
     sub-has-code
     part-has-code-start
     part-has-code-end
-    has-code-requires
+    (λ c κs. search needs)
     returns-2)

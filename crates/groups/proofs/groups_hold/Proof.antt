@@ -9,19 +9,10 @@ use Rattle.groups.proofs.Grouped.{grouped, groups-are}
 use Rattle.groups.proofs.groups_hold.Statement.{statement}
 use Rattle.groups.proofs.groups_hold.Tie as tie
 
-nothing-without-ca-requires : tie.Need-nothing-without-ca-requires
-nothing-without-ca-requires c κs = search needs
-
 returns : tie.Need-returns
 returns c =
     let a = actionsOf (c .before .before .before .args .content .now) in
     sym (groups-are a ∙ all-false 0 (grouped a) (sym (c .before .nothing-without-ca .ensures) ∙ not-true _ (c .if1 .taken)))
-
-cas-of-requires : tie.Need-cas-of-requires
-cas-of-requires c κs = search needs
-
-conditioning-holds-requires : tie.Need-conditioning-holds-requires
-conditioning-holds-requires c κs = search needs
 
 returns-2 : tie.Need-returns-2
 unfolding actionsOf
@@ -29,29 +20,17 @@ returns-2 c =
     let a = actionsOf (c .before .before .before .before .before .before .args .content .now) in
     sym (groups-are a ∙ all-false 1 (grouped a) (sym (rw (c .before .before .cas-of .ensures) at (c .before .conditioning-holds .ensures)) ∙ not-true _ (c .if2 .taken)))
 
-sas-of-requires : tie.Need-sas-of-requires
-sas-of-requires c κs = search needs
-
-precedence-never-rises-requires : tie.Need-precedence-never-rises-requires
-precedence-never-rises-requires c κs = search needs
-
 returns-3 : tie.Need-returns-3
 unfolding actionsOf
 returns-3 c =
     let a = actionsOf (c .before .before .before .before .before .before .before .before .before .args .content .now) in
     sym (groups-are a ∙ all-false 2 (grouped a) (sym (rw (c .before .before .sas-of .ensures) at (c .before .precedence-never-rises .ensures)) ∙ not-true _ (c .if3 .taken)))
 
-no-service-repeats-requires : tie.Need-no-service-repeats-requires
-no-service-repeats-requires c κs = search needs
-
 returns-4 : tie.Need-returns-4
 unfolding actionsOf
 returns-4 c =
     let a = actionsOf (c .before .before .before .before .before .before .before .before .before .before .before .args .content .now) in
     sym (groups-are a ∙ all-false 3 (grouped a) (sym (rw (c .before .before .before .before .sas-of .ensures) at (c .before .no-service-repeats .ensures)) ∙ not-true _ (c .if4 .taken)))
-
-formatting-backed-requires : tie.Need-formatting-backed-requires
-formatting-backed-requires c κs = search needs
 
 returns-5 : tie.Need-returns-5
 unfolding actionsOf
@@ -74,15 +53,15 @@ pub groups-hold-spec : {M : Type 1} → statement M
 groups-hold-spec =
     tie.close
     (tie.spec
-    nothing-without-ca-requires
+    (λ c κs. search needs)
     returns
-    cas-of-requires
-    conditioning-holds-requires
+    (λ c κs. search needs)
+    (λ c κs. search needs)
     returns-2
-    sas-of-requires
-    precedence-never-rises-requires
+    (λ c κs. search needs)
+    (λ c κs. search needs)
     returns-3
-    no-service-repeats-requires
+    (λ c κs. search needs)
     returns-4
-    formatting-backed-requires
+    (λ c κs. search needs)
     returns-5)

@@ -10,12 +10,6 @@ use Rattle.groups.proofs.Backed.{value-backed, sp-backed, asd-backed, g
 use Rattle.groups.proofs.is_backed.Statement.{statement}
 use Rattle.groups.proofs.is_backed.Tie as tie
 
-cas-of-requires : tie.Need-cas-of-requires
-cas-of-requires c κs = search needs
-
-is-set-requires : tie.Need-is-set-requires
-is-set-requires c κs = search needs
-
 returns : tie.Need-returns
 unfolding actionsOf
 returns c =
@@ -23,12 +17,6 @@ returns c =
     let set = actionsOf (args .content .now) in
     let asked : c .is-set .result ≡ isSet (args .f) (set .cas) = rw (c .before .cas-of .ensures) at (c .is-set .ensures) in
     asked ∙ sym (value-backed set (args .f) (c .before .before .if1 .taken))
-
-sas-of-requires : tie.Need-sas-of-requires
-sas-of-requires c κs = search needs
-
-contains-requires : tie.Need-contains-requires
-contains-requires c κs = search needs
 
 returns-2 : tie.Need-returns-2
 unfolding actionsOf
@@ -39,12 +27,6 @@ returns-2 c =
     let up-to-sp : args .f ≤ SP = omega arith in
     asked ∙ sym (sp-backed set (args .f) (c .before .before .before .if1 .left) up-to-sp)
 
-sas-of-requires-2 : tie.Need-sas-of-requires-2
-sas-of-requires-2 c κs = search needs
-
-contains-requires-2 : tie.Need-contains-requires-2
-contains-requires-2 c κs = search needs
-
 returns-3 : tie.Need-returns-3
 unfolding actionsOf
 returns-3 c =
@@ -52,12 +34,6 @@ returns-3 c =
     let set = actionsOf (args .content .now) in
     let asked : c .contains2 .result ≡ contains ASDLKUP (set .sas) = rw (c .before .sas-of2 .ensures) at (c .contains2 .ensures) in
     asked ∙ sym (asd-backed set (args .f) (c .before .before .if3 .taken))
-
-sas-of-requires-3 : tie.Need-sas-of-requires-3
-sas-of-requires-3 c κs = search needs
-
-contains-requires-3 : tie.Need-contains-requires-3
-contains-requires-3 c κs = search needs
 
 returns-4 : tie.Need-returns-4
 unfolding actionsOf
@@ -77,16 +53,16 @@ pub is-backed-spec : {M : Type 1} → statement M
 is-backed-spec =
     tie.close
     (tie.spec
-    cas-of-requires
-    is-set-requires
+    (λ c κs. search needs)
+    (λ c κs. search needs)
     returns
-    sas-of-requires
-    contains-requires
+    (λ c κs. search needs)
+    (λ c κs. search needs)
     returns-2
-    sas-of-requires-2
-    contains-requires-2
+    (λ c κs. search needs)
+    (λ c κs. search needs)
     returns-3
-    sas-of-requires-3
-    contains-requires-3
+    (λ c κs. search needs)
+    (λ c κs. search needs)
     returns-4
     returns-5)

@@ -18,19 +18,10 @@ Inv-loop before sas last₀ i₀ last i =
 abbrev μ-loop : tie.MeasureT-loop
 μ-loop before sas last₀ i₀ last i = length sas - i
 
-loop-holds : tie.Need-loop-holds Inv-loop μ-loop
-loop-holds c = search needs
-
-code-at-requires : tie.Need-code-at-requires Inv-loop μ-loop
-code-at-requires c κs = search needs
-
 returns : tie.Need-returns Inv-loop μ-loop
 returns c =
     let l = c .before .before in
     stop (neverRisesFrom (l .loop .last)) (c .before .code-at .ensures) (c .if1 .taken) (l .loop .inv .1)
-
-precedence-requires : tie.Need-precedence-requires Inv-loop μ-loop
-precedence-requires c κs = search needs
 
 returns-2 : tie.Need-returns-2 Inv-loop μ-loop
 returns-2 c =
@@ -60,10 +51,10 @@ never-rises-from-spec =
     (tie.spec
     Inv-loop
     μ-loop
-    loop-holds
-    code-at-requires
+    (λ c. search needs)
+    (λ c κs. search needs)
     returns
-    precedence-requires
+    (λ c κs. search needs)
     returns-2
     add-i
     loop-less

@@ -19,12 +19,6 @@ Inv-loop sas i₀ i = (i ≤ length sas) × (noServiceRepeats (codesOf (drop i s
 abbrev μ-loop : tie.MeasureT-loop
 μ-loop sas i₀ i = length sas - i
 
-loop-holds : tie.Need-loop-holds Inv-loop μ-loop
-loop-holds c = search needs
-
-code-at-requires : tie.Need-code-at-requires Inv-loop μ-loop
-code-at-requires c κs = search needs
-
 returns : tie.Need-returns Inv-loop μ-loop
 returns c =
     let l = c .before .before in
@@ -41,9 +35,6 @@ part-contains-start c = omega (arith, c .before .code-at .ensures .inside (c .if
 
 part-contains-end : tie.Need-part-contains-end Inv-loop μ-loop
 part-contains-end c = omega (arith, c .before .code-at .ensures .inside (c .if1 .left))
-
-contains-requires : tie.Need-contains-requires Inv-loop μ-loop
-contains-requires c κs = search needs
 
 returns-2 : tie.Need-returns-2 Inv-loop μ-loop
 returns-2 c =
@@ -74,14 +65,14 @@ no-service-repeats-spec =
     (tie.spec
     Inv-loop
     μ-loop
-    loop-holds
-    code-at-requires
+    (λ c. search needs)
+    (λ c κs. search needs)
     returns
     add-i
     sub-contains
     part-contains-start
     part-contains-end
-    contains-requires
+    (λ c κs. search needs)
     returns-2
     loop-less
     loop-again)

@@ -5,17 +5,11 @@ use borrow.Author.Tests.{eq-eqb, ne-eqb}
 use Rattle.groups.proofs.not_set_again.Statement.{statement}
 use Rattle.groups.proofs.not_set_again.Tie as tie
 
-value-of-requires : tie.Need-value-of-requires
-value-of-requires c κs = search needs
-
 returns : tie.Need-returns
 returns c = rw (eq-eqb _ 0 (sym (c .before .value-of .ensures) ∙ c .if1 .taken))
-
-is-set-requires : tie.Need-is-set-requires
-is-set-requires c κs = search needs
 
 returns-2 : tie.Need-returns-2
 returns-2 c = rw (c .is-set .ensures, ← c .before .before .value-of .ensures, ne-eqb _ 0 (c .before .if1 .left))
 
 pub not-set-again-spec : {M : Type 1} → statement M
-not-set-again-spec = tie.close (tie.spec value-of-requires returns is-set-requires returns-2)
+not-set-again-spec = tie.close (tie.spec (λ c κs. search needs) returns (λ c κs. search needs) returns-2)

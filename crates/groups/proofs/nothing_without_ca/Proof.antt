@@ -8,26 +8,11 @@ use Rattle.meaning.specs.Groups.{nothingWithoutCA}
 use Rattle.groups.proofs.nothing_without_ca.Statement.{statement}
 use Rattle.groups.proofs.nothing_without_ca.Tie as tie
 
-sas-of-requires : tie.Need-sas-of-requires
-sas-of-requires c κs = search needs
-
-fas-of-requires : tie.Need-fas-of-requires
-fas-of-requires c κs = search needs
-
-cas-of-requires : tie.Need-cas-of-requires
-cas-of-requires c κs = search needs
-
-no-conditioning-requires : tie.Need-no-conditioning-requires
-no-conditioning-requires c κs = search needs
-
 returns : tie.Need-returns
 unfolding nothingWithoutCA actionsOf
 returns c =
     let n = rw (c .before .before .cas-of .ensures) at (c .before .no-conditioning .ensures) in
     rw (sym n ∙ not-true _ (c .if1 .taken))
-
-no-codes-requires : tie.Need-no-codes-requires
-no-codes-requires c κs = search needs
 
 returns-2 : tie.Need-returns-2
 unfolding nothingWithoutCA actionsOf
@@ -35,9 +20,6 @@ returns-2 c =
     let n = rw (c .before .before .before .before .cas-of .ensures) at (c .before .before .before .no-conditioning .ensures) in
     let m = rw (c .before .before .before .before .before .before .sas-of .ensures) at (c .before .no-codes .ensures) in
     rw (sym n ∙ not-false _ (c .before .before .if1 .left), sym m ∙ not-true _ (c .if2 .taken))
-
-no-codes-requires-2 : tie.Need-no-codes-requires-2
-no-codes-requires-2 c κs = search needs
 
 returns-3 : tie.Need-returns-3
 unfolding nothingWithoutCA actionsOf
@@ -52,12 +34,12 @@ pub nothing-without-ca-spec : {M : Type 1} → statement M
 nothing-without-ca-spec =
     tie.close
     (tie.spec
-    sas-of-requires
-    fas-of-requires
-    cas-of-requires
-    no-conditioning-requires
+    (λ c κs. search needs)
+    (λ c κs. search needs)
+    (λ c κs. search needs)
+    (λ c κs. search needs)
     returns
-    no-codes-requires
+    (λ c κs. search needs)
     returns-2
-    no-codes-requires-2
+    (λ c κs. search needs)
     returns-3)

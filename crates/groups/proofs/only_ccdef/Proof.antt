@@ -19,12 +19,6 @@ Inv-loop cas i₀ i = (i ≤ length cas) × (all isCCDEF (casOf (drop i cas)) �
 abbrev μ-loop : tie.MeasureT-loop
 μ-loop cas i₀ i = length cas - i
 
-loop-holds : tie.Need-loop-holds Inv-loop μ-loop
-loop-holds c = search needs
-
-action-at-requires : tie.Need-action-at-requires Inv-loop μ-loop
-action-at-requires c κs = search needs
-
 returns : tie.Need-returns Inv-loop μ-loop
 returns c =
     let l = c .before .before .before in
@@ -58,8 +52,8 @@ only-ccdef-spec =
     (tie.spec
     Inv-loop
     μ-loop
-    loop-holds
-    action-at-requires
+    (λ c. search needs)
+    (λ c κs. search needs)
     returns
     returns-2
     add-i

@@ -17,12 +17,6 @@ Inv-loop cas i₀ i = (i ≤ length cas) × (onlyCcdefAfterX (casOf (drop i cas)
 abbrev μ-loop : tie.MeasureT-loop
 μ-loop cas i₀ i = length cas - i
 
-loop-holds : tie.Need-loop-holds Inv-loop μ-loop
-loop-holds c = search needs
-
-action-at-requires : tie.Need-action-at-requires Inv-loop μ-loop
-action-at-requires c κs = search needs
-
 returns : tie.Need-returns Inv-loop μ-loop
 returns c =
     let l = c .before .before .before in
@@ -30,9 +24,6 @@ returns c =
 
 add-i : tie.Need-add-i Inv-loop μ-loop
 add-i c = omega (arith, c .before .before .action-at .ensures .inside (c .if1 .left))
-
-is-x-requires : tie.Need-is-x-requires Inv-loop μ-loop
-is-x-requires c κs = search needs
 
 sub-only-ccdef : tie.Need-sub-only-ccdef Inv-loop μ-loop
 sub-only-ccdef c = omega (arith, c .before .before .before .before .action-at .ensures .inside (c .before .before .if1 .left))
@@ -42,9 +33,6 @@ part-only-ccdef-start c = omega (arith, c .before .before .before .before .actio
 
 part-only-ccdef-end : tie.Need-part-only-ccdef-end Inv-loop μ-loop
 part-only-ccdef-end c = omega (arith, c .before .before .before .before .action-at .ensures .inside (c .before .before .if1 .left))
-
-only-ccdef-requires : tie.Need-only-ccdef-requires Inv-loop μ-loop
-only-ccdef-requires c κs = search needs
 
 returns-2 : tie.Need-returns-2 Inv-loop μ-loop
 returns-2 c =
@@ -70,15 +58,15 @@ only-ccdef-after-x-spec =
     (tie.spec
     Inv-loop
     μ-loop
-    loop-holds
-    action-at-requires
+    (λ c. search needs)
+    (λ c κs. search needs)
     returns
     add-i
-    is-x-requires
+    (λ c κs. search needs)
     sub-only-ccdef
     part-only-ccdef-start
     part-only-ccdef-end
-    only-ccdef-requires
+    (λ c κs. search needs)
     returns-2
     loop-less
     loop-again)

@@ -7,14 +7,8 @@ use Rattle.buffer.proofs.ListLaws.{rest-is}
 use Rattle.groups.proofs.precedence_never_rises.Statement.{statement}
 use Rattle.groups.proofs.precedence_never_rises.Tie as tie
 
-code-at-requires : tie.Need-code-at-requires
-code-at-requires c κs = search needs
-
 returns : tie.Need-returns
 returns c = sym (ap precedenceNeverRises (c .before .code-at .ensures .ends (c .if1 .taken)))
-
-precedence-requires : tie.Need-precedence-requires
-precedence-requires c κs = search needs
 
 sub-never-rises-from : tie.Need-sub-never-rises-from
 sub-never-rises-from c = omega (arith, c .before .before .code-at .ensures .inside (c .before .if1 .left))
@@ -25,9 +19,6 @@ part-never-rises-from-start c = omega (arith, c .before .before .code-at .ensure
 part-never-rises-from-end : tie.Need-part-never-rises-from-end
 part-never-rises-from-end c = omega (arith, c .before .before .code-at .ensures .inside (c .before .if1 .left))
 
-never-rises-from-requires : tie.Need-never-rises-from-requires
-never-rises-from-requires c κs = search needs
-
 returns-2 : tie.Need-returns-2
 returns-2 c =
     let e = rw (c .before .before .precedence .ensures, rest-is 1 (c .before .before .before .before .before .before .args .sas .now)) at (c .never-rises-from .ensures) in
@@ -37,11 +28,11 @@ pub precedence-never-rises-spec : {M : Type 1} → statement M
 precedence-never-rises-spec =
     tie.close
     (tie.spec
-    code-at-requires
+    (λ c κs. search needs)
     returns
-    precedence-requires
+    (λ c κs. search needs)
     sub-never-rises-from
     part-never-rises-from-start
     part-never-rises-from-end
-    never-rises-from-requires
+    (λ c κs. search needs)
     returns-2)

@@ -6,12 +6,6 @@ use borrow.Author.Needs.{needs}
 use Rattle.listing.proofs.rule_at.Statement.{statement}
 use Rattle.listing.proofs.rule_at.Tie as tie
 
-sound-requires : tie.Need-sound-requires
-sound-requires c κs = search needs
-
-refused-requires : tie.Need-refused-requires
-refused-requires c κs = search needs
-
 returns : tie.Need-returns
 returns c =
     let g = c .before .before .before .before in
@@ -27,4 +21,4 @@ returns-2 c =
 
 pub rule-at-spec : {M : Type 1} → statement M
 rule-at-spec =
-    tie.close (tie.spec sound-requires refused-requires returns rule-known-requires returns-2)
+    tie.close (tie.spec (λ c κs. search needs) (λ c κs. search needs) returns rule-known-requires returns-2)

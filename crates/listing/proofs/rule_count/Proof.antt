@@ -6,9 +6,6 @@ use borrow.Author.Needs.{needs}
 use Rattle.listing.proofs.rule_count.Statement.{statement}
 use Rattle.listing.proofs.rule_count.Tie as tie
 
-sound-requires : tie.Need-sound-requires
-sound-requires c κs = search needs
-
 returns : tie.Need-returns
 returns c =
     let g = c .before .before .before in
@@ -23,4 +20,4 @@ returns-2 c =
     count-given (g .args .plan .now) _ (sym (c .before .before .sound .ensures) ∙ not-false _ (c .before .if1 .left)) (c .count-known .ensures)
 
 pub rule-count-spec : {M : Type 1} → statement M
-rule-count-spec = tie.close (tie.spec sound-requires returns count-known-requires returns-2)
+rule-count-spec = tie.close (tie.spec (λ c κs. search needs) returns count-known-requires returns-2)

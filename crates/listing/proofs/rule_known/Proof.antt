@@ -8,15 +8,6 @@ use borrow.Author.Needs.{needs}
 use Rattle.listing.proofs.rule_known.Statement.{statement}
 use Rattle.listing.proofs.rule_known.Tie as tie
 
-count-known-requires : tie.Need-count-known-requires
-count-known-requires c κs = search needs
-
-cast-if1 : tie.Need-cast-if1
-cast-if1 c = search needs
-
-refused-requires : tie.Need-refused-requires
-refused-requires c κs = search needs
-
 returns : tie.Need-returns
 returns c =
     let count = c .before .before .before in
@@ -30,10 +21,7 @@ held-at-requires c κs =
     let g = count .before .before in
     (g .pre, omega (arith, length-listing (g .args .plan .now), count .count-known .ensures, c .if1 .left))
 
-returns-2 : tie.Need-returns-2
-returns-2 c = search needs
-
 pub rule-known-spec : {M : Type 1} → statement M
 rule-known-spec =
     tie.close
-    (tie.spec count-known-requires cast-if1 refused-requires returns held-at-requires returns-2)
+    (tie.spec (λ c κs. search needs) (λ c. search needs) (λ c κs. search needs) returns held-at-requires (λ c. search needs))

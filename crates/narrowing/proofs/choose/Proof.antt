@@ -15,46 +15,10 @@ Inv-loop rules count class digits lo₀ hi₀ best₀ most₀ j₀ lo hi best mo
 abbrev μ-loop : tie.MeasureT-loop
 μ-loop rules count class digits lo₀ hi₀ best₀ most₀ j₀ lo hi best most j = hi - lo + (16 - j)
 
-wide-requires : tie.Need-wide-requires Inv-loop μ-loop
-wide-requires c κs = search needs
-
-narrow-requires : tie.Need-narrow-requires Inv-loop μ-loop
-narrow-requires c κs = search needs
-
 loop-holds : tie.Need-loop-holds Inv-loop μ-loop
 loop-holds c =
     let g = c .before .before .before .before in
     class-reached (g .pre .0) (g .pre .1) (c .before .wide .ensures .is) (c .narrow .ensures)
-
-mul-a : tie.Need-mul-a Inv-loop μ-loop
-mul-a c = search needs
-
-add-wide : tie.Need-add-wide Inv-loop μ-loop
-add-wide c = search needs
-
-shared-slice-read-wide : tie.Need-shared-slice-read-wide Inv-loop μ-loop
-shared-slice-read-wide c = search needs
-
-wide-requires-2 : tie.Need-wide-requires-2 Inv-loop μ-loop
-wide-requires-2 c κs = search needs
-
-add-weigh-length : tie.Need-add-weigh-length Inv-loop μ-loop
-add-weigh-length c = search needs
-
-shared-slice-read-weigh-length : tie.Need-shared-slice-read-weigh-length Inv-loop μ-loop
-shared-slice-read-weigh-length c = search needs
-
-weigh-length-requires : tie.Need-weigh-length-requires Inv-loop μ-loop
-weigh-length-requires c κs = search needs
-
-cast-t25 : tie.Need-cast-t25 Inv-loop μ-loop
-cast-t25 c = search needs
-
-add-lo : tie.Need-add-lo Inv-loop μ-loop
-add-lo c = search needs
-
-loop-less : tie.Need-loop-less Inv-loop μ-loop
-loop-less c = search needs
 
 loop-again : tie.Need-loop-again Inv-loop μ-loop
 loop-again c =
@@ -73,21 +37,6 @@ returns c =
     let l = c .before .before .before .before .before .loop in
     sym (number-ends (g .pre .0) (g .pre .1) (l .inv) (c .before .before .before .before .loop-test .taken)
     (λ e. c .before .if1 .left (c .before .before .wide2 .ensures .is ∙ e)) (c .if3 .taken))
-
-add-narrow : tie.Need-add-narrow Inv-loop μ-loop
-add-narrow c = search needs
-
-shared-slice-read-wide-2 : tie.Need-shared-slice-read-wide-2 Inv-loop μ-loop
-shared-slice-read-wide-2 c = search needs
-
-wide-requires-3 : tie.Need-wide-requires-3 Inv-loop μ-loop
-wide-requires-3 c κs = search needs
-
-narrow-requires-2 : tie.Need-narrow-requires-2 Inv-loop μ-loop
-narrow-requires-2 c κs = search needs
-
-add-j : tie.Need-add-j Inv-loop μ-loop
-add-j c = search needs
 
 loop-less-2 : tie.Need-loop-less-2 Inv-loop μ-loop
 loop-less-2 c =
@@ -121,26 +70,26 @@ choose-spec =
     (tie.spec
     Inv-loop
     μ-loop
-    wide-requires
-    narrow-requires
+    (λ c κs. search needs)
+    (λ c κs. search needs)
     loop-holds
-    mul-a
-    add-wide
-    shared-slice-read-wide
-    wide-requires-2
-    add-weigh-length
-    shared-slice-read-weigh-length
-    weigh-length-requires
-    cast-t25
-    add-lo
-    loop-less
+    (λ c. search needs)
+    (λ c. search needs)
+    (λ c. search needs)
+    (λ c κs. search needs)
+    (λ c. search needs)
+    (λ c. search needs)
+    (λ c κs. search needs)
+    (λ c. search needs)
+    (λ c. search needs)
+    (λ c. search needs)
     loop-again
     returns
-    add-narrow
-    shared-slice-read-wide-2
-    wide-requires-3
-    narrow-requires-2
-    add-j
+    (λ c. search needs)
+    (λ c. search needs)
+    (λ c κs. search needs)
+    (λ c κs. search needs)
+    (λ c. search needs)
     loop-less-2
     loop-again-2
     returns-2)

@@ -5,23 +5,8 @@ use borrow.Author.Needs.{needs}
 use Rattle.narrowing.proofs.weigh_length.Statement.{statement}
 use Rattle.narrowing.proofs.weigh_length.Tie as tie
 
-mul-result : tie.Need-mul-result
-mul-result c = search needs
-
-add-result : tie.Need-add-result
-add-result c = search needs
-
 returns : tie.Need-returns
 returns c = let a = c .before .args in sym (weight-wildcard (a .j) (a .n) (a .len) (c .if1 .taken))
-
-wide-requires : tie.Need-wide-requires
-wide-requires c κs = search needs
-
-mul-result-2 : tie.Need-mul-result-2
-mul-result-2 c = search needs
-
-add-result-2 : tie.Need-add-result-2
-add-result-2 c = search needs
 
 returns-2 : tie.Need-returns-2
 returns-2 c =
@@ -37,11 +22,11 @@ pub weigh-length-spec : {M : Type 1} → statement M
 weigh-length-spec =
     tie.close
     (tie.spec
-    mul-result
-    add-result
+    (λ c. search needs)
+    (λ c. search needs)
     returns
-    wide-requires
-    mul-result-2
-    add-result-2
+    (λ c κs. search needs)
+    (λ c. search needs)
+    (λ c. search needs)
     returns-2
     returns-3)

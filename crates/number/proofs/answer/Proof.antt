@@ -7,47 +7,20 @@ use borrow.Author.Needs.{needs}
 use Rattle.number.proofs.answer.Statement.{statement}
 use Rattle.number.proofs.answer.Tie as tie
 
-refused-requires : tie.Need-refused-requires
-refused-requires c κs = search needs
-
 returns : tie.Need-returns
 returns c =
     let b = c .before .before .before .before .before in
     gives-cut (b .args .plan .now) (b .args .body .now) (b .args .out .now) _ (c .before .if1 .taken) (c .refused .ensures)
-
-sound-requires : tie.Need-sound-requires
-sound-requires c κs = search needs
-
-refused-requires-2 : tie.Need-refused-requires-2
-refused-requires-2 c κs = search needs
 
 returns-2 : tie.Need-returns-2
 returns-2 c =
     let b = c .before .before .before .before .before .before .before in
     gives-unsound (b .args .plan .now) (b .args .body .now) (b .args .out .now) _ (c .before .before .before .if1 .left) (sym (c .before .before .sound .ensures) ∙ not-true _ (c .before .if2 .taken)) (c .refused2 .ensures)
 
-refused-requires-3 : tie.Need-refused-requires-3
-refused-requires-3 c κs = search needs
-
 returns-3 : tie.Need-returns-3
 returns-3 c =
     let b = c .before .before .before .before .before .before .before .before in
     gives-no-room (b .args .plan .now) (b .args .body .now) (b .args .out .now) _ (c .before .before .before .before .if1 .left) (sym (c .before .before .before .sound .ensures) ∙ not-false _ (c .before .before .if2 .left)) (c .before .if3 .taken) (c .refused3 .ensures)
-
-sub-number : tie.Need-sub-number
-sub-number c = search needs
-
-part-number-start : tie.Need-part-number-start
-part-number-start c = search needs
-
-part-number-end : tie.Need-part-number-end
-part-number-end c = search needs
-
-number-in-range-requires : tie.Need-number-in-range-requires
-number-in-range-requires c κs = search needs
-
-refused-requires-4 : tie.Need-refused-requires-4
-refused-requires-4 c κs = search needs
 
 returns-4 : tie.Need-returns-4
 returns-4 c =
@@ -59,9 +32,6 @@ answer-known-requires c κs =
     let b = c .before .before .before .before .before .before .before .before .before .before .before in
     record { known = known-is (b .args .plan .now) (b .args .body .now) (c .before .before .before .before .before .before .before .if1 .left) (sym (c .before .before .before .before .before .before .sound .ensures) ∙ not-false _ (c .before .before .before .before .before .if2 .left)) (sym (c .before .before .number-in-range .ensures) ∙ not-false _ (c .before .if4 .left)); room = omega (arith, c .before .before .before .before .if3 .left) }
 
-same-length : tie.Need-same-length
-same-length c = search needs
-
 returns-5 : tie.Need-returns-5
 returns-5 c =
     let b = c .before .before .before .before .before .before .before .before .before .before .before .before .before .before in
@@ -71,19 +41,19 @@ pub answer-spec : {M : Type 1} → statement M
 answer-spec =
     tie.close
     (tie.spec
-    refused-requires
+    (λ c κs. search needs)
     returns
-    sound-requires
-    refused-requires-2
+    (λ c κs. search needs)
+    (λ c κs. search needs)
     returns-2
-    refused-requires-3
+    (λ c κs. search needs)
     returns-3
-    sub-number
-    part-number-start
-    part-number-end
-    number-in-range-requires
-    refused-requires-4
+    (λ c. search needs)
+    (λ c. search needs)
+    (λ c. search needs)
+    (λ c κs. search needs)
+    (λ c κs. search needs)
     returns-4
     answer-known-requires
-    same-length
+    (λ c. search needs)
     returns-5)

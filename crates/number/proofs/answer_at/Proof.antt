@@ -28,9 +28,6 @@ answer-by-requires c κs =
     let a = b .args in
     answerable (a .plan .now) (a .body .now) (a .out .now) (a .n) (a .place .0) (b .pre) _ _ _ (c .before .settings .ensures) (c .before .before .before .prefix-at .ensures) (c .before .before .content-at .ensures)
 
-same-length : tie.Need-same-length
-same-length c = search needs
-
 returns : tie.Need-returns
 returns c =
     let b = c .before .before .before .before .before .before .before .before .before .before in
@@ -45,5 +42,5 @@ answer-at-spec =
     content-at-requires
     settings-requires
     answer-by-requires
-    same-length
+    (λ c. search needs)
     returns)

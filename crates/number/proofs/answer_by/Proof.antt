@@ -12,40 +12,13 @@ use borrow.Author.Needs.{needs}
 use Rattle.number.proofs.answer_by.Statement.{statement}
 use Rattle.number.proofs.answer_by.Tie as tie
 
-shared-slice-read-class : tie.Need-shared-slice-read-class
-shared-slice-read-class c = search needs
-
-cas-of-requires : tie.Need-cas-of-requires
-cas-of-requires c κs = search needs
-
-shared-slice-read-outgoing-class : tie.Need-shared-slice-read-outgoing-class
-shared-slice-read-outgoing-class c = search needs
-
-outgoing-class-requires : tie.Need-outgoing-class-requires
-outgoing-class-requires c κs = search needs
-
-no-conditioning-requires : tie.Need-no-conditioning-requires
-no-conditioning-requires c κs = search needs
-
-unserved-requires : tie.Need-unserved-requires
-unserved-requires c κs = search needs
-
 returns : tie.Need-returns
 returns c =
     let a = c .before .before .before .before .before .before .before .before .before .before .before .args in
     holds-unserved _ _ _ _ _ (given-escaped (a .settings .now) (lookupIn (a .body .now)) (getD (a .body .now) 0 0) (digitsIn (a .n) (a .body .now)) (a .prefix) (a .content .now) _ (c .before .before .before .before .before .cas-of .ensures) _ (c .before .before .before .outgoing-class .ensures) (sym (c .before .before .no-conditioning .ensures) ∙ c .before .if1 .taken)) (c .unserved .ensures)
 
-slice-aggregate-mark-spans : tie.Need-slice-aggregate-mark-spans
-slice-aggregate-mark-spans c = search needs
-
-slice-aggregate-mark-spans-2 : tie.Need-slice-aggregate-mark-spans-2
-slice-aggregate-mark-spans-2 c = search needs
-
 mark-spans-requires : tie.Need-mark-spans-requires
 mark-spans-requires c κs = let g = c .before .before .before .before .before .before .before .before .before .before .before .before in markable-anew (g .args .n) DIALLED-DIGITS-AT (omega arith) (omega (arith, g .pre .few))
-
-refused-requires : tie.Need-refused-requires
-refused-requires c κs = search needs
 
 returns-2 : tie.Need-returns-2
 returns-2 c =
@@ -54,40 +27,16 @@ returns-2 c =
     let short = sym (c .before .before .before .before .mark-spans .ensures .short-is) ∙ c .before .if2 .taken in
     holds-refused _ _ _ _ (given-short (a .settings .now) (lookupIn (a .body .now)) (getD (a .body .now) 0 0) (digitsIn (a .n) (a .body .now)) (a .prefix) (a .content .now) _ (c .before .before .before .before .before .before .before .before .before .before .before .cas-of .ensures) _ (c .before .before .before .before .before .before .before .before .before .outgoing-class .ensures) (sym (c .before .before .before .before .before .before .before .before .no-conditioning .ensures) ∙ c .before .before .before .before .before .before .before .if1 .left) (rw (digits-long (a .body .now) (a .n) (omega (arith, b .pre .body-long, b .pre .few))) short)) (c .refused .ensures)
 
-sas-of-requires : tie.Need-sas-of-requires
-sas-of-requires c κs = search needs
-
-sub-service-stage : tie.Need-sub-service-stage
-sub-service-stage c = search needs
-
-part-service-stage-start : tie.Need-part-service-stage-start
-part-service-stage-start c = search needs
-
-part-service-stage-end : tie.Need-part-service-stage-end
-part-service-stage-end c = search needs
-
 service-stage-requires : tie.Need-service-stage-requires
 service-stage-requires c κs =
     let b = c .before .before .before .before .before .before .before .before .before .before .before .before .before .before .before .before .before .before in
     serviceable (b .args .settings .now) (b .args .body .now) (b .args .n) (b .args .content .now) (b .args .out .now) (b .pre) _ _ (c .before .sas-of .ensures) refl
-
-fas-of-requires : tie.Need-fas-of-requires
-fas-of-requires c κs = search needs
-
-slice-aggregate-finish : tie.Need-slice-aggregate-finish
-slice-aggregate-finish c = search needs
-
-slice-aggregate-finish-2 : tie.Need-slice-aggregate-finish-2
-slice-aggregate-finish-2 c = search needs
 
 finish-requires : tie.Need-finish-requires
 finish-requires c κs =
     let b = c .before .before .before .before .before .before .before .before .before .before .before .before .before .before .before .before .before .before .before .before .before .before .before in
     let m = c .before .before .before .before .before .before .before .before .before .before .mark-spans .ensures .marked (c .before .before .before .before .before .before .before .if2 .left) in
     (marks-formattable (b .args .settings .now) (b .args .body .now) (b .pre .settings-long) (b .pre .body-long) (b .pre .few) (search needs) (search needs) m, b .pre .room)
-
-same-length : tie.Need-same-length
-same-length c = search needs
 
 returns-3 : tie.Need-returns-3
 returns-3 c =
@@ -104,26 +53,26 @@ pub answer-by-spec : {M : Type 1} → statement M
 answer-by-spec =
     tie.close
     (tie.spec
-    shared-slice-read-class
-    cas-of-requires
-    shared-slice-read-outgoing-class
-    outgoing-class-requires
-    no-conditioning-requires
-    unserved-requires
+    (λ c. search needs)
+    (λ c κs. search needs)
+    (λ c. search needs)
+    (λ c κs. search needs)
+    (λ c κs. search needs)
+    (λ c κs. search needs)
     returns
-    slice-aggregate-mark-spans
-    slice-aggregate-mark-spans-2
+    (λ c. search needs)
+    (λ c. search needs)
     mark-spans-requires
-    refused-requires
+    (λ c κs. search needs)
     returns-2
-    sas-of-requires
-    sub-service-stage
-    part-service-stage-start
-    part-service-stage-end
+    (λ c κs. search needs)
+    (λ c. search needs)
+    (λ c. search needs)
+    (λ c. search needs)
     service-stage-requires
-    fas-of-requires
-    slice-aggregate-finish
-    slice-aggregate-finish-2
+    (λ c κs. search needs)
+    (λ c. search needs)
+    (λ c. search needs)
     finish-requires
-    same-length
+    (λ c. search needs)
     returns-3)

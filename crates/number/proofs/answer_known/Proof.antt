@@ -6,18 +6,6 @@ use borrow.Author.Needs.{needs}
 use Rattle.number.proofs.answer_known.Statement.{statement}
 use Rattle.number.proofs.answer_known.Tie as tie
 
-slice-aggregate-answer-held : tie.Need-slice-aggregate-answer-held
-slice-aggregate-answer-held c = search needs
-
-answer-held-requires : tie.Need-answer-held-requires
-answer-held-requires c κs = search needs
-
-sub-copy : tie.Need-sub-copy
-sub-copy c = search needs
-
-part-copy-start : tie.Need-part-copy-start
-part-copy-start c = search needs
-
 part-copy-end : tie.Need-part-copy-end
 part-copy-end c = omega (arith, holds-few (c .before .before .before .answer-held .ensures))
 
@@ -25,9 +13,6 @@ copy-requires : tie.Need-copy-requires
 copy-requires c κs =
     let g = c .before .before .before .before .before .before .before .before .before in
     rw length-take (omega (arith, holds-few (c .before .before .before .before .answer-held .ensures), g .pre .room))
-
-same-length : tie.Need-same-length
-same-length c = search needs
 
 returns : tie.Need-returns
 returns c =
@@ -38,11 +23,11 @@ pub answer-known-spec : {M : Type 1} → statement M
 answer-known-spec =
     tie.close
     (tie.spec
-    slice-aggregate-answer-held
-    answer-held-requires
-    sub-copy
-    part-copy-start
+    (λ c. search needs)
+    (λ c κs. search needs)
+    (λ c. search needs)
+    (λ c. search needs)
     part-copy-end
     copy-requires
-    same-length
+    (λ c. search needs)
     returns)

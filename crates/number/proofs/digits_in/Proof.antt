@@ -5,21 +5,6 @@ use borrow.Author.Needs.{needs}
 use Rattle.number.proofs.digits_in.Statement.{statement}
 use Rattle.number.proofs.digits_in.Tie as tie
 
-shared-slice-read-wide : tie.Need-shared-slice-read-wide
-shared-slice-read-wide c = search needs
-
-wide-requires : tie.Need-wide-requires
-wide-requires c κs = search needs
-
-add-e : tie.Need-add-e
-add-e c = search needs
-
-sub-result : tie.Need-sub-result
-sub-result c = search needs
-
-part-result-start : tie.Need-part-result-start
-part-result-start c = search needs
-
 part-result-end : tie.Need-part-result-end
 part-result-end c =
     let b = c .before .before .before in
@@ -34,10 +19,10 @@ pub digits-in-spec : {M : Type 1} → statement M
 digits-in-spec =
     tie.close
     (tie.spec
-    shared-slice-read-wide
-    wide-requires
-    add-e
-    sub-result
-    part-result-start
+    (λ c. search needs)
+    (λ c κs. search needs)
+    (λ c. search needs)
+    (λ c. search needs)
+    (λ c. search needs)
     part-result-end
     returns)

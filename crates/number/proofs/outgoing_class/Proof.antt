@@ -4,21 +4,6 @@ use borrow.Author.Needs.{needs}
 use Rattle.number.proofs.outgoing_class.Statement.{statement}
 use Rattle.number.proofs.outgoing_class.Tie as tie
 
-outgoing-requires : tie.Need-outgoing-requires
-outgoing-requires c κs = search needs
-
-enum-known-class : tie.Need-enum-known-class
-enum-known-class c = search needs
-
-code-requires : tie.Need-code-requires
-code-requires c κs = search needs
-
-enum-told : tie.Need-enum-told
-enum-told c = search needs
-
-enum-told-2 : tie.Need-enum-told-2
-enum-told-2 c = search needs
-
 returns : tie.Need-returns
 returns c = let b = c .before .before .before .before .before in class-given (b .args .set) (b .args .incoming) _ (c .before .before .before .before .outgoing .ensures) _ (c .before .before .class .given .1) _ (c .code .ensures)
 
@@ -32,11 +17,11 @@ pub outgoing-class-spec : {M : Type 1} → statement M
 outgoing-class-spec =
     tie.close
     (tie.spec
-    outgoing-requires
-    enum-known-class
-    code-requires
-    enum-told
-    enum-told-2
+    (λ c κs. search needs)
+    (λ c. search needs)
+    (λ c κs. search needs)
+    (λ c. search needs)
+    (λ c. search needs)
     returns
     returns-2
     returns-3)

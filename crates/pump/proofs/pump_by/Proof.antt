@@ -22,31 +22,10 @@ loop-holds c =
     let b = c .before .before .before .before in
     going-start (b .args .plan .now) (b .args .run) (b .args .ended) (b .args .input .now) (b .args .output .now) (b .pre .0)
 
-sub-step-by : tie.Need-sub-step-by Inv-loop μ-loop
-sub-step-by c = search needs
-
-part-step-by-start : tie.Need-part-step-by-start Inv-loop μ-loop
-part-step-by-start c = search needs
-
-part-step-by-end : tie.Need-part-step-by-end Inv-loop μ-loop
-part-step-by-end c = search needs
-
-sub-step-by-2 : tie.Need-sub-step-by-2 Inv-loop μ-loop
-sub-step-by-2 c = search needs
-
-part-step-by-start-2 : tie.Need-part-step-by-start-2 Inv-loop μ-loop
-part-step-by-start-2 c = search needs
-
-part-step-by-end-2 : tie.Need-part-step-by-end-2 Inv-loop μ-loop
-part-step-by-end-2 c = search needs
-
 step-by-requires : tie.Need-step-by-requires Inv-loop μ-loop
 step-by-requires c κs =
     let l = c .before .before .before .before in
     (l .loop .inv .in-run, l .before .before .before .before .before .pre .1)
-
-enum-known-line : tie.Need-enum-known-line Inv-loop μ-loop
-enum-known-line c = search needs
 
 add-at : tie.Need-add-at Inv-loop μ-loop
 add-at c =
@@ -70,38 +49,17 @@ loop-again c =
     let s = c .before .before .before .before .before .before .before .before .before .before in
     line-goes (s .before .before .before .before .before .loop .inv) (s .step-by .ensures) (c .before .before .before .before .line .given .1)
 
-enum-told : tie.Need-enum-told Inv-loop μ-loop
-enum-told c = search needs
-
-stopped-requires : tie.Need-stopped-requires Inv-loop μ-loop
-stopped-requires c κs = search needs
-
 same-length : tie.Need-same-length Inv-loop μ-loop
 same-length c = let s = c .before .before .before .before .before .before .before in after-size (s .before .before .before .before .before .loop .inv) (s .step-by .ensures)
-
-same-length-2 : tie.Need-same-length-2 Inv-loop μ-loop
-same-length-2 c = search needs
 
 returns : tie.Need-returns Inv-loop μ-loop
 returns c = let s = c .before .before .before .before .before .before .before in rw (c .stopped .ensures) (wants-stops (s .before .before .before .before .before .loop .inv) (s .step-by .ensures) (c .before .enum-told .given .1))
 
-enum-told-2 : tie.Need-enum-told-2 Inv-loop μ-loop
-enum-told-2 c = search needs
-
-stopped-requires-2 : tie.Need-stopped-requires-2 Inv-loop μ-loop
-stopped-requires-2 c κs = search needs
-
 same-length-3 : tie.Need-same-length-3 Inv-loop μ-loop
 same-length-3 c = let s = c .before .before .before .before .before .before .before in after-size (s .before .before .before .before .before .loop .inv) (s .step-by .ensures)
 
-same-length-4 : tie.Need-same-length-4 Inv-loop μ-loop
-same-length-4 c = search needs
-
 returns-2 : tie.Need-returns-2 Inv-loop μ-loop
 returns-2 c = let s = c .before .before .before .before .before .before .before in rw (c .stopped2 .ensures) (full-stops (s .before .before .before .before .before .loop .inv) (s .step-by .ensures) (c .before .enum-told2 .given .1))
-
-enum-known-last : tie.Need-enum-known-last Inv-loop μ-loop
-enum-known-last c = search needs
 
 add-stopped : tie.Need-add-stopped Inv-loop μ-loop
 add-stopped c =
@@ -109,26 +67,11 @@ add-stopped c =
     let most = end-fits (s .before .before .before .before .before .loop .inv) (s .step-by .ensures) (c .before .before .last .given .1) in
     record { fits = omega (arith, most, c .before .before .before .before .before .before .before .before .before .before .before .before .before .before .before .before .before .before .good .1 .1 .1 .1 .1 .0) }
 
-stopped-requires-3 : tie.Need-stopped-requires-3 Inv-loop μ-loop
-stopped-requires-3 c κs = search needs
-
 same-length-5 : tie.Need-same-length-5 Inv-loop μ-loop
 same-length-5 c = let s = c .before .before .before .before .before .before .before .before .before in after-size (s .before .before .before .before .before .loop .inv) (s .step-by .ensures)
 
-same-length-6 : tie.Need-same-length-6 Inv-loop μ-loop
-same-length-6 c = search needs
-
 returns-3 : tie.Need-returns-3 Inv-loop μ-loop
 returns-3 c = let s = c .before .before .before .before .before .before .before .before .before in rw (c .stopped3 .ensures) (end-stops (s .before .before .before .before .before .loop .inv) (s .step-by .ensures) (c .before .before .before .last .given .1))
-
-stopped-requires-4 : tie.Need-stopped-requires-4 Inv-loop μ-loop
-stopped-requires-4 c κs = search needs
-
-same-length-7 : tie.Need-same-length-7 Inv-loop μ-loop
-same-length-7 c = search needs
-
-same-length-8 : tie.Need-same-length-8 Inv-loop μ-loop
-same-length-8 c = search needs
 
 returns-4 : tie.Need-returns-4 Inv-loop μ-loop
 returns-4 c = absurd (omega (arith, c .before .before .loop .inv .room, c .before .before .loop .inv .long))
@@ -140,35 +83,35 @@ pump-by-spec =
     Inv-loop
     μ-loop
     loop-holds
-    sub-step-by
-    part-step-by-start
-    part-step-by-end
-    sub-step-by-2
-    part-step-by-start-2
-    part-step-by-end-2
+    (λ c. search needs)
+    (λ c. search needs)
+    (λ c. search needs)
+    (λ c. search needs)
+    (λ c. search needs)
+    (λ c. search needs)
     step-by-requires
-    enum-known-line
+    (λ c. search needs)
     add-at
     add-end
     loop-less
     loop-again
-    enum-told
-    stopped-requires
+    (λ c. search needs)
+    (λ c κs. search needs)
     same-length
-    same-length-2
+    (λ c. search needs)
     returns
-    enum-told-2
-    stopped-requires-2
+    (λ c. search needs)
+    (λ c κs. search needs)
     same-length-3
-    same-length-4
+    (λ c. search needs)
     returns-2
-    enum-known-last
+    (λ c. search needs)
     add-stopped
-    stopped-requires-3
+    (λ c κs. search needs)
     same-length-5
-    same-length-6
+    (λ c. search needs)
     returns-3
-    stopped-requires-4
-    same-length-7
-    same-length-8
+    (λ c κs. search needs)
+    (λ c. search needs)
+    (λ c. search needs)
     returns-4)

@@ -7,9 +7,6 @@ use borrow.Author.Needs.{needs}
 use Rattle.reads.proofs.conditioned.Statement.{statement}
 use Rattle.reads.proofs.conditioned.Tie as tie
 
-sound-requires : tie.Need-sound-requires
-sound-requires c κs = search needs
-
 returns : tie.Need-returns
 returns c =
     let g = c .before .before .before .before .before in
@@ -19,9 +16,6 @@ returns-2 : tie.Need-returns-2
 returns-2 c =
     let g = c .before .before .before .before .before .before in
     number-room (g .args .plan .now) (g .args .class) (g .args .digits .now) (g .args .out .now) (sym (c .before .before .sound .ensures) ∙ not-false _ (c .before .if1 .left)) (omega (arith, c .if2 .taken))
-
-dialled-in-range-requires : tie.Need-dialled-in-range-requires
-dialled-in-range-requires c κs = search needs
 
 returns-3 : tie.Need-returns-3
 returns-3 c =
@@ -33,9 +27,6 @@ conditioned-known-requires : tie.Need-conditioned-known-requires
 conditioned-known-requires c κs =
     (sym (c .before .before .before .before .before .sound .ensures) ∙ not-false _ (c .before .before .before .before .if1 .left), sym (c .before .before .dialled-in-range .ensures) ∙ not-false _ (c .before .if3 .left), c .before .before .before .if2 .left)
 
-same-length : tie.Need-same-length
-same-length c = search needs
-
 returns-4 : tie.Need-returns-4
 returns-4 c =
     let g = c .before .before .before .before .before .before .before .before .before .before .before .before in
@@ -46,11 +37,11 @@ pub conditioned-spec : {M : Type 1} → statement M
 conditioned-spec =
     tie.close
     (tie.spec
-    sound-requires
+    (λ c κs. search needs)
     returns
     returns-2
-    dialled-in-range-requires
+    (λ c κs. search needs)
     returns-3
     conditioned-known-requires
-    same-length
+    (λ c. search needs)
     returns-4)

@@ -7,26 +7,11 @@ use borrow.Author.Needs.{needs}
 use Rattle.reads.proofs.conditioned_at.Statement.{statement}
 use Rattle.reads.proofs.conditioned_at.Tie as tie
 
-content-at-requires : tie.Need-content-at-requires
-content-at-requires c κs = search needs
-
-cas-of-requires : tie.Need-cas-of-requires
-cas-of-requires c κs = search needs
-
-no-conditioning-requires : tie.Need-no-conditioning-requires
-no-conditioning-requires c κs = search needs
-
 returns : tie.Need-returns
 returns c =
     let g = c .before .before .before .before .before .before .before in
     number-unconditioned (g .args .plan .now) (g .args .place .0) (g .args .digits .now) (g .args .out .now) _ _ (c .before .before .before .content-at .ensures) (c .before .before .cas-of .ensures)
     (sym (c .before .no-conditioning .ensures) ∙ c .if1 .taken)
-
-prefix-at-requires : tie.Need-prefix-at-requires
-prefix-at-requires c κs = search needs
-
-is-short-requires : tie.Need-is-short-requires
-is-short-requires c κs = search needs
 
 returns-2 : tie.Need-returns-2
 returns-2 c =
@@ -49,9 +34,6 @@ write-conditioned-requires c κs =
       omega (arith, few, g .pre .1),
     )
 
-same-length : tie.Need-same-length
-same-length c = search needs
-
 returns-3 : tie.Need-returns-3
 returns-3 c =
     let g = c .before .before .before .before .before .before .before .before .before .before .before .before .before .before .before in
@@ -62,14 +44,14 @@ pub conditioned-at-spec : {M : Type 1} → statement M
 conditioned-at-spec =
     tie.close
     (tie.spec
-    content-at-requires
-    cas-of-requires
-    no-conditioning-requires
+    (λ c κs. search needs)
+    (λ c κs. search needs)
+    (λ c κs. search needs)
     returns
-    prefix-at-requires
-    is-short-requires
+    (λ c κs. search needs)
+    (λ c κs. search needs)
     returns-2
     settings-requires
     write-conditioned-requires
-    same-length
+    (λ c. search needs)
     returns-3)

@@ -4,15 +4,6 @@ use borrow.Author.Needs.{needs}
 use Rattle.reads.proofs.conditioned_known.Statement.{statement}
 use Rattle.reads.proofs.conditioned_known.Tie as tie
 
-choose-requires : tie.Need-choose-requires
-choose-requires c κs = search needs
-
-enum-told : tie.Need-enum-told
-enum-told c = search needs
-
-enum-known-place : tie.Need-enum-known-place
-enum-known-place c = search needs
-
 conditioned-at-requires : tie.Need-conditioned-at-requires
 conditioned-at-requires c κs =
     let g = c .before .before .before .before .before .before .before .before in
@@ -22,9 +13,6 @@ returns : tie.Need-returns
 returns c =
     let g = c .before .before .before .before .before .before in
     number-none (g .args .plan .now) (g .args .class) (g .args .digits .now) (g .args .out .now) (c .before .before .choose .result) (c .before .before .choose .ensures) (c .enum-told .given .1)
-
-same-length : tie.Need-same-length
-same-length c = search needs
 
 returns-2 : tie.Need-returns-2
 returns-2 c =
@@ -36,10 +24,10 @@ pub conditioned-known-spec : {M : Type 1} → statement M
 conditioned-known-spec =
     tie.close
     (tie.spec
-    choose-requires
-    enum-told
-    enum-known-place
+    (λ c κs. search needs)
+    (λ c. search needs)
+    (λ c. search needs)
     conditioned-at-requires
     returns
-    same-length
+    (λ c. search needs)
     returns-2)

@@ -6,9 +6,6 @@ use borrow.Author.Needs.{needs}
 use Rattle.reads.proofs.referrers.Statement.{statement}
 use Rattle.reads.proofs.referrers.Tie as tie
 
-sound-requires : tie.Need-sound-requires
-sound-requires c κs = search needs
-
 returns : tie.Need-returns
 returns c =
     let g = c .before .before .before in
@@ -24,4 +21,4 @@ returns-2 c =
     c .referrers-known .ensures ∙ count-known (g .args .plan .now) (g .args .set .0) (sym (c .before .before .sound .ensures) ∙ not-false _ (c .before .if1 .left))
 
 pub referrers-spec : {M : Type 1} → statement M
-referrers-spec = tie.close (tie.spec sound-requires returns referrers-known-requires returns-2)
+referrers-spec = tie.close (tie.spec (λ c κs. search needs) returns referrers-known-requires returns-2)

@@ -18,16 +18,10 @@ returns c =
     let g = c .before .before .before in
     count-range (planOf (g .args .plan .now)) (g .args .set .0) (sym (c .before .is-over-room .ensures) ∙ c .if1 .taken)
 
-is-held-requires : tie.Need-is-held-requires
-is-held-requires c κs = search needs
-
 returns-2 : tie.Need-returns-2
 returns-2 c =
     let g = c .before .before .before .before .before in
     count-absent (planOf (g .args .plan .now)) (g .args .set .0) (sym (c .before .before .before .is-over-room .ensures) ∙ c .before .before .if1 .left) (sym (c .before .is-held .ensures) ∙ not-true _ (c .if2 .taken))
-
-referrers-requires : tie.Need-referrers-requires
-referrers-requires c κs = search needs
 
 returns-3 : tie.Need-returns-3
 returns-3 c =
@@ -41,7 +35,7 @@ referrers-known-spec =
     (tie.spec
     is-over-room-requires
     returns
-    is-held-requires
+    (λ c κs. search needs)
     returns-2
-    referrers-requires
+    (λ c κs. search needs)
     returns-3)

@@ -7,9 +7,6 @@ use borrow.Author.Needs.{needs}
 use Rattle.reads.proofs.set_content.Statement.{statement}
 use Rattle.reads.proofs.set_content.Tie as tie
 
-sound-requires : tie.Need-sound-requires
-sound-requires c κs = search needs
-
 returns : tie.Need-returns
 returns c =
     let g = c .before .before .before .before in
@@ -24,9 +21,6 @@ set-content-known-requires : tie.Need-set-content-known-requires
 set-content-known-requires c κs =
     (sym (c .before .before .before .sound .ensures) ∙ not-false _ (c .before .before .if1 .left), c .before .if2 .left)
 
-same-length : tie.Need-same-length
-same-length c = search needs
-
 returns-3 : tie.Need-returns-3
 returns-3 c =
     let g = c .before .before .before .before .before .before .before .before .before in
@@ -35,4 +29,4 @@ returns-3 c =
 pub set-content-spec : {M : Type 1} → statement M
 set-content-spec =
     tie.close
-    (tie.spec sound-requires returns returns-2 set-content-known-requires same-length returns-3)
+    (tie.spec (λ c κs. search needs) returns returns-2 set-content-known-requires (λ c. search needs) returns-3)

@@ -18,9 +18,6 @@ returns c =
     let g = c .before .before .before .before in
     content-range (planOf (g .args .plan .now)) (g .args .set .0) (g .args .out .now) (g .pre .1) (sym (c .before .is-over-room .ensures) ∙ c .if1 .taken)
 
-is-held-requires : tie.Need-is-held-requires
-is-held-requires c κs = search needs
-
 returns-2 : tie.Need-returns-2
 returns-2 c =
     let g = c .before .before .before .before .before .before in
@@ -30,12 +27,6 @@ content-requires : tie.Need-content-requires
 content-requires c κs =
     let g = c .before .before .before .before .before .before in
     (g .pre .0, sym (c .before .is-held .ensures) ∙ not-false _ (c .if2 .left))
-
-write-content-requires : tie.Need-write-content-requires
-write-content-requires c κs = search needs
-
-same-length : tie.Need-same-length
-same-length c = search needs
 
 returns-3 : tie.Need-returns-3
 returns-3 c =
@@ -49,9 +40,9 @@ set-content-known-spec =
     (tie.spec
     is-over-room-requires
     returns
-    is-held-requires
+    (λ c κs. search needs)
     returns-2
     content-requires
-    write-content-requires
-    same-length
+    (λ c κs. search needs)
+    (λ c. search needs)
     returns-3)

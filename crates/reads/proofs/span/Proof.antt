@@ -6,25 +6,16 @@ use borrow.Author.Needs.{needs}
 use Rattle.reads.proofs.span.Statement.{statement}
 use Rattle.reads.proofs.span.Tie as tie
 
-sound-requires : tie.Need-sound-requires
-sound-requires c κs = search needs
-
 returns : tie.Need-returns
 returns c =
     let g = c .before .before .before .before in
     span-plan (g .args .plan .now) (g .args .class) (g .args .digits .now) (g .args .value) (sym (c .before .sound .ensures) ∙ not-true _ (c .if1 .taken))
-
-dialled-in-range-requires : tie.Need-dialled-in-range-requires
-dialled-in-range-requires c κs = search needs
 
 returns-2 : tie.Need-returns-2
 returns-2 c =
     let g = c .before .before .before .before .before .before in
     span-range (g .args .plan .now) (g .args .class) (g .args .digits .now) (g .args .value) (sym (c .before .before .before .sound .ensures) ∙ not-false _ (c .before .before .if1 .left))
     (sym (c .before .dialled-in-range .ensures) ∙ not-true _ (c .if2 .taken))
-
-is-conditioned-requires : tie.Need-is-conditioned-requires
-is-conditioned-requires c κs = search needs
 
 returns-3 : tie.Need-returns-3
 returns-3 c =
@@ -46,11 +37,11 @@ pub span-spec : {M : Type 1} → statement M
 span-spec =
     tie.close
     (tie.spec
-    sound-requires
+    (λ c κs. search needs)
     returns
-    dialled-in-range-requires
+    (λ c κs. search needs)
     returns-2
-    is-conditioned-requires
+    (λ c κs. search needs)
     returns-3
     span-known-requires
     returns-4)

@@ -4,30 +4,15 @@ use borrow.Author.Needs.{needs}
 use Rattle.reads.proofs.span_known.Statement.{statement}
 use Rattle.reads.proofs.span_known.Tie as tie
 
-choose-requires : tie.Need-choose-requires
-choose-requires c κs = search needs
-
-enum-told : tie.Need-enum-told
-enum-told c = search needs
-
-enum-known-place : tie.Need-enum-known-place
-enum-known-place c = search needs
-
 content-at-requires : tie.Need-content-at-requires
 content-at-requires c κs =
     let g = c .before .before .before .before .before .before in
     (g .pre, place-below (g .args .plan .now) (g .args .class) (g .args .digits .now) (g .args .value) (c .before .before .before .choose .result) (c .before .before .before .choose .ensures) _ (c .before .place .given .1) (g .pre))
 
-cas-of-requires : tie.Need-cas-of-requires
-cas-of-requires c κs = search needs
-
 prefix-at-requires : tie.Need-prefix-at-requires
 prefix-at-requires c κs =
     let g = c .before .before .before .before .before .before .before .before in
     (g .pre, place-below (g .args .plan .now) (g .args .class) (g .args .digits .now) (g .args .value) (c .before .before .before .before .before .choose .result) (c .before .before .before .before .before .choose .ensures) _ (c .before .before .before .place .given .1) (g .pre))
-
-span-in-requires : tie.Need-span-in-requires
-span-in-requires c κs = search needs
 
 returns : tie.Need-returns
 returns c =
@@ -44,12 +29,12 @@ pub span-known-spec : {M : Type 1} → statement M
 span-known-spec =
     tie.close
     (tie.spec
-    choose-requires
-    enum-told
-    enum-known-place
+    (λ c κs. search needs)
+    (λ c. search needs)
+    (λ c. search needs)
     content-at-requires
-    cas-of-requires
+    (λ c κs. search needs)
     prefix-at-requires
-    span-in-requires
+    (λ c κs. search needs)
     returns
     returns-2)

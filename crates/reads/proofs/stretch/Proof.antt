@@ -8,18 +8,6 @@ use borrow.Author.Needs.{needs}
 use Rattle.reads.proofs.stretch.Statement.{statement}
 use Rattle.reads.proofs.stretch.Tie as tie
 
-span-requires : tie.Need-span-requires
-span-requires c κs = search needs
-
-add-end : tie.Need-add-end
-add-end c = search needs
-
-sub-result : tie.Need-sub-result
-sub-result c = search needs
-
-part-result-start : tie.Need-part-result-start
-part-result-start c = search needs
-
 part-result-end : tie.Need-part-result-end
 part-result-end c = search needs
 
@@ -35,4 +23,4 @@ returns c =
 
 pub stretch-spec : {M : Type 1} → statement M
 stretch-spec =
-    tie.close (tie.spec span-requires add-end sub-result part-result-start part-result-end returns)
+    tie.close (tie.spec (λ c κs. search needs) (λ c. search needs) (λ c. search needs) (λ c. search needs) part-result-end returns)

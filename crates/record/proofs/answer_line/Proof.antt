@@ -6,18 +6,6 @@ use borrow.Author.Needs.{needs}
 use Rattle.record.proofs.answer_line.Statement.{statement}
 use Rattle.record.proofs.answer_line.Tie as tie
 
-slice-aggregate-answer-held : tie.Need-slice-aggregate-answer-held
-slice-aggregate-answer-held c = search needs
-
-answer-held-requires : tie.Need-answer-held-requires
-answer-held-requires c κs = search needs
-
-sub-number-line : tie.Need-sub-number-line
-sub-number-line c = search needs
-
-part-number-line-start : tie.Need-part-number-line-start
-part-number-line-start c = search needs
-
 part-number-line-end : tie.Need-part-number-line-end
 part-number-line-end c = omega (arith, holds-few (c .before .before .answer-held .ensures))
 
@@ -26,9 +14,6 @@ number-line-requires c κs =
     let g = c .before .before .before .before .before .before .before .before .before in
     (known-in (g .pre .0) (c .before .before .before .before .answer-held .ensures), g .pre .1)
 
-same-length : tie.Need-same-length
-same-length c = search needs
-
 returns : tie.Need-returns
 returns c = known-line (c .before .before .before .before .before .before .before .before .before .before .before .before .pre .0) (c .before .before .before .before .before .before .before .answer-held .ensures) (c .before .before .number-line .ensures)
 
@@ -36,11 +21,11 @@ pub answer-line-spec : {M : Type 1} → statement M
 answer-line-spec =
     tie.close
     (tie.spec
-    slice-aggregate-answer-held
-    answer-held-requires
-    sub-number-line
-    part-number-line-start
+    (λ c. search needs)
+    (λ c κs. search needs)
+    (λ c. search needs)
+    (λ c. search needs)
     part-number-line-end
     number-line-requires
-    same-length
+    (λ c. search needs)
     returns)

@@ -4,27 +4,6 @@ use Rattle.record.proofs.CallLines.{call-line}
 use Rattle.record.proofs.call_record.Statement.{statement}
 use Rattle.record.proofs.call_record.Tie as tie
 
-carry-out-requires : tie.Need-carry-out-requires
-carry-out-requires c κs = search needs
-
-accepted-line-requires : tie.Need-accepted-line-requires
-accepted-line-requires c κs = search needs
-
-add-line-of : tie.Need-add-line-of
-add-line-of c = search needs
-
-opened-after-requires : tie.Need-opened-after-requires
-opened-after-requires c κs = search needs
-
-line-of-requires : tie.Need-line-of-requires
-line-of-requires c κs = search needs
-
-same-length : tie.Need-same-length
-same-length c = search needs
-
-same-length-2 : tie.Need-same-length-2
-same-length-2 c = search needs
-
 returns : tie.Need-returns
 returns c =
     let b = c .before .before .before .before .before .before .before .before .before .before .before .before .before in
@@ -35,11 +14,11 @@ pub call-record-spec : {M : Type 1} → statement M
 call-record-spec =
     tie.close
     (tie.spec
-    carry-out-requires
-    accepted-line-requires
-    add-line-of
-    opened-after-requires
-    line-of-requires
-    same-length
-    same-length-2
+    (λ c κs. search needs)
+    (λ c κs. search needs)
+    (λ c. search needs)
+    (λ c κs. search needs)
+    (λ c κs. search needs)
+    (λ c. search needs)
+    (λ c. search needs)
     returns)

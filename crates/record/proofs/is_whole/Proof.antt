@@ -7,14 +7,8 @@ use Rattle.record.proofs.is_whole.Tie as tie
 returns : tie.Need-returns
 returns c = empty-not-whole (c .before .before .args .input .now) (c .if1 .taken)
 
-shared-slice-read-body-length : tie.Need-shared-slice-read-body-length
-shared-slice-read-body-length c = search needs
-
-body-length-requires : tie.Need-body-length-requires
-body-length-requires c κs = search needs
-
 returns-2 : tie.Need-returns-2
 returns-2 c = whole-test (c .before .before .before .before .args .input .now) (c .body-length .result) (c .before .before .if1 .left) (c .body-length .ensures .is)
 
 pub is-whole-spec : {M : Type 1} → statement M
-is-whole-spec = tie.close (tie.spec returns shared-slice-read-body-length body-length-requires returns-2)
+is-whole-spec = tie.close (tie.spec returns (λ c. search needs) (λ c κs. search needs) returns-2)

@@ -7,15 +7,6 @@ use Rattle.record.proofs.ReadLines.{list-no-plan, listing-few, list-end
 use Rattle.record.proofs.list_record.Statement.{statement}
 use Rattle.record.proofs.list_record.Tie as tie
 
-no-line-requires : tie.Need-no-line-requires
-no-line-requires c κs = search needs
-
-line-of-requires : tie.Need-line-of-requires
-line-of-requires c κs = search needs
-
-same-length : tie.Need-same-length
-same-length c = search needs
-
 returns : tie.Need-returns
 returns c =
     let b = c .before .before .before .before .before .before .before .before .before in
@@ -25,20 +16,11 @@ returns c =
 count-known-requires : tie.Need-count-known-requires
 count-known-requires c κs = c .before .before .before .before .pre .0 ∙ not-false _ (c .if1 .left)
 
-cast-if2 : tie.Need-cast-if2
-cast-if2 c = search needs
-
 end-line-requires : tie.Need-end-line-requires
 end-line-requires c κs =
     let b = c .before .before .before .before .before .before .before .before in
     let few = listing-few (b .args .plan .now) (b .args .run) (c .before .before .before .before .before .before .before .before .pre .0 ∙ not-false _ (c .before .before .before .before .if1 .left)) (not-false _ (c .before .before .before .before .if1 .left)) _ (c .before .before .before .count-known .ensures) in
     (omega (arith, few), b .pre .1)
-
-line-of-requires-2 : tie.Need-line-of-requires-2
-line-of-requires-2 c κs = search needs
-
-same-length-2 : tie.Need-same-length-2
-same-length-2 c = search needs
 
 returns-2 : tie.Need-returns-2
 returns-2 c =
@@ -60,12 +42,6 @@ add-line-of c =
     let few = listing-few (b .args .plan .now) (b .args .run) (c .before .before .before .before .before .before .before .before .before .before .before .before .before .pre .0 ∙ not-false _ (c .before .before .before .before .before .before .before .before .before .if1 .left)) (not-false _ (c .before .before .before .before .before .before .before .before .before .if1 .left)) _ (c .before .before .before .before .before .before .before .before .count-known .ensures) in
     omega (arith, few, c .before .before .before .before .before .before .if2 .left)
 
-line-of-requires-3 : tie.Need-line-of-requires-3
-line-of-requires-3 c κs = search needs
-
-same-length-3 : tie.Need-same-length-3
-same-length-3 c = search needs
-
 returns-3 : tie.Need-returns-3
 returns-3 c =
     let b = c .before .before .before .before .before .before .before .before .before .before .before .before .before .before in
@@ -76,19 +52,19 @@ pub list-record-spec : {M : Type 1} → statement M
 list-record-spec =
     tie.close
     (tie.spec
-    no-line-requires
-    line-of-requires
-    same-length
+    (λ c κs. search needs)
+    (λ c κs. search needs)
+    (λ c. search needs)
     returns
     count-known-requires
-    cast-if2
+    (λ c. search needs)
     end-line-requires
-    line-of-requires-2
-    same-length-2
+    (λ c κs. search needs)
+    (λ c. search needs)
     returns-2
     rule-known-requires
     listed-line-requires
     add-line-of
-    line-of-requires-3
-    same-length-3
+    (λ c κs. search needs)
+    (λ c. search needs)
     returns-3)

@@ -6,25 +6,10 @@ use borrow.Author.Needs.{needs}
 use Rattle.record.proofs.number_record.Statement.{statement}
 use Rattle.record.proofs.number_record.Tie as tie
 
-no-line-requires : tie.Need-no-line-requires
-no-line-requires c κs = search needs
-
-same-length : tie.Need-same-length
-same-length c = search needs
-
 returns : tie.Need-returns
 returns c =
     let b = c .before .before .before .before .before .before .before .before .before in
     no-plan-line (b .args .plan .now) (b .args .body .now) (b .pre .1) (b .pre .0 ∙ not-true _ (c .before .before .before .before .if1 .taken)) (c .before .before .no-line .ensures)
-
-number-in-range-by-requires : tie.Need-number-in-range-by-requires
-number-in-range-by-requires c κs = search needs
-
-no-line-requires-2 : tie.Need-no-line-requires-2
-no-line-requires-2 c κs = search needs
-
-same-length-2 : tie.Need-same-length-2
-same-length-2 c = search needs
 
 returns-2 : tie.Need-returns-2
 returns-2 c =
@@ -37,23 +22,17 @@ answer-line-requires c κs =
     let b = c .before .before .before .before .before .before .before .before in
     (number-known (b .args .plan .now) (b .args .body .now) (b .pre .1) (b .pre .0 ∙ not-false _ (c .before .before .before .if1 .left)) (sym (c .before .before .number-in-range-by .ensures) ∙ not-false _ (c .before .if2 .left)), b .pre .2)
 
-same-length-3 : tie.Need-same-length-3
-same-length-3 c = search needs
-
-returns-3 : tie.Need-returns-3
-returns-3 c = search needs
-
 pub number-record-spec : {M : Type 1} → statement M
 number-record-spec =
     tie.close
     (tie.spec
-    no-line-requires
-    same-length
+    (λ c κs. search needs)
+    (λ c. search needs)
     returns
-    number-in-range-by-requires
-    no-line-requires-2
-    same-length-2
+    (λ c κs. search needs)
+    (λ c κs. search needs)
+    (λ c. search needs)
     returns-2
     answer-line-requires
-    same-length-3
-    returns-3)
+    (λ c. search needs)
+    (λ c. search needs))

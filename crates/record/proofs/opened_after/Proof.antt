@@ -5,9 +5,6 @@ use Rattle.record.proofs.CallLines.{opened-kept, opened-now, opened-sam
 use Rattle.record.proofs.opened_after.Statement.{statement}
 use Rattle.record.proofs.opened_after.Tie as tie
 
-number-requires : tie.Need-number-requires
-number-requires c κs = search needs
-
 returns : tie.Need-returns
 returns c = let a = c .before .before .args in opened-kept (a .opened) (a .kind) (numberOfProvisioned (a .answer)) _ (c .before .number .ensures) (c .if1 .taken)
 
@@ -18,4 +15,4 @@ returns-3 : tie.Need-returns-3
 returns-3 c = let a = c .before .before .before .args in opened-same (a .opened) (a .kind) (numberOfProvisioned (a .answer)) _ (c .before .before .number .ensures) (c .before .if1 .left) (c .if2 .left)
 
 pub opened-after-spec : {M : Type 1} → statement M
-opened-after-spec = tie.close (tie.spec number-requires returns returns-2 returns-3)
+opened-after-spec = tie.close (tie.spec (λ c κs. search needs) returns returns-2 returns-3)

@@ -12,12 +12,6 @@ number-record-requires c κs =
     let b = c .before .before .before .before .before .before in
     (b .pre .0, b .pre .3 ∙ ap bodyLength (c .before .if1 .taken), b .pre .4, b .pre .5)
 
-line-of-requires : tie.Need-line-of-requires
-line-of-requires c κs = search needs
-
-same-length : tie.Need-same-length
-same-length c = search needs
-
 returns : tie.Need-returns
 returns c =
     let b = c .before .before .before .before .before .before .before .before .before .before in
@@ -29,22 +23,10 @@ refs-record-requires c κs =
     let b = c .before .before .before .before .before .before .before in
     (b .pre .0, b .pre .3 ∙ ap bodyLength (c .before .if2 .taken), b .pre .4)
 
-line-of-requires-2 : tie.Need-line-of-requires-2
-line-of-requires-2 c κs = search needs
-
-same-length-2 : tie.Need-same-length-2
-same-length-2 c = search needs
-
 returns-2 : tie.Need-returns-2
 returns-2 c =
     let b = c .before .before .before .before .before .before .before .before .before .before .before in
     read-refs (b .args .plan .now) (b .args .run) (b .args .kind) (b .args .body .now) (c .before .before .before .before .before .if2 .taken) (c .before .before .before .refs-record .ensures) (c .line-of2 .ensures)
-
-list-record-requires : tie.Need-list-record-requires
-list-record-requires c κs = search needs
-
-same-length-3 : tie.Need-same-length-3
-same-length-3 c = search needs
 
 returns-3 : tie.Need-returns-3
 returns-3 c =
@@ -57,13 +39,13 @@ read-record-spec =
     tie.close
     (tie.spec
     number-record-requires
-    line-of-requires
-    same-length
+    (λ c κs. search needs)
+    (λ c. search needs)
     returns
     refs-record-requires
-    line-of-requires-2
-    same-length-2
+    (λ c κs. search needs)
+    (λ c. search needs)
     returns-2
-    list-record-requires
-    same-length-3
+    (λ c κs. search needs)
+    (λ c. search needs)
     returns-3)

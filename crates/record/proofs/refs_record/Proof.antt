@@ -6,19 +6,10 @@ use Rattle.record.proofs.ReadLines.{refs-few, refs-no-plan, refs-known}
 use Rattle.record.proofs.refs_record.Statement.{statement}
 use Rattle.record.proofs.refs_record.Tie as tie
 
-no-line-requires : tie.Need-no-line-requires
-no-line-requires c κs = search needs
-
-same-length : tie.Need-same-length
-same-length c = search needs
-
 returns : tie.Need-returns
 returns c =
     let b = c .before .before .before .before .before .before .before .before in
     refs-no-plan (b .args .plan .now) _ (b .pre .0 ∙ not-true _ (c .before .before .before .before .if1 .taken)) (c .before .before .no-line .ensures)
-
-set-number-requires : tie.Need-set-number-requires
-set-number-requires c κs = search needs
 
 referrers-known-requires : tie.Need-referrers-known-requires
 referrers-known-requires c κs =
@@ -28,9 +19,6 @@ refs-line-requires : tie.Need-refs-line-requires
 refs-line-requires c κs =
     let b = c .before .before .before .before .before .before .before in
     (refs-few (b .args .plan .now) (c .before .referrers-known .result) _ (b .pre .0 ∙ not-false _ (c .before .before .before .if1 .left)) (c .before .referrers-known .ensures), b .pre .2)
-
-same-length-2 : tie.Need-same-length-2
-same-length-2 c = search needs
 
 returns-2 : tie.Need-returns-2
 returns-2 c =
@@ -42,11 +30,11 @@ pub refs-record-spec : {M : Type 1} → statement M
 refs-record-spec =
     tie.close
     (tie.spec
-    no-line-requires
-    same-length
+    (λ c κs. search needs)
+    (λ c. search needs)
     returns
-    set-number-requires
+    (λ c κs. search needs)
     referrers-known-requires
     refs-line-requires
-    same-length-2
+    (λ c. search needs)
     returns-2)

@@ -15,50 +15,17 @@ returns-2 c = let b = c .before .before .before .before .before .before in nothi
 returns-3 : tie.Need-returns-3
 returns-3 c = let b = c .before .before .before .before .before .before in no-room (b .args .plan .now) (b .args .run .lines) (b .args .ended) (b .args .input .now) (b .args .output .now) (c .before .if1 .left) (c .if3 .taken)
 
-shared-slice-read-kind : tie.Need-shared-slice-read-kind
-shared-slice-read-kind c = search needs
-
-is-kind-requires : tie.Need-is-kind-requires
-is-kind-requires c κs = search needs
-
-no-line-requires : tie.Need-no-line-requires
-no-line-requires c κs = search needs
-
-same-length : tie.Need-same-length
-same-length c = search needs
-
 returns-4 : tie.Need-returns-4
 returns-4 c =
     let b = c .before .before .before .before .before .before .before .before .before .before .before .before .before in
     unknown-ends (b .args .plan .now) (b .args .run .lines) (b .args .ended) (b .args .input .now) (b .args .output .now) (c .before .before .before .before .before .before .before .before .if1 .left) (c .before .before .before .before .before .before .before .if3 .left)
     (sym (c .before .before .before .before .before .is-kind .ensures) ∙ not-true _ (c .before .before .before .before .if4 .taken)) (c .before .before .no-line .ensures)
 
-body-length-requires : tie.Need-body-length-requires
-body-length-requires c κs = search needs
-
-add-end : tie.Need-add-end
-add-end c = search needs
-
-cut-record-requires : tie.Need-cut-record-requires
-cut-record-requires c κs = search needs
-
-same-length-2 : tie.Need-same-length-2
-same-length-2 c = search needs
-
 returns-5 : tie.Need-returns-5
 returns-5 c =
     let b = c .before .before .before .before .before .before .before .before .before .before .before .before .before .before .before in
     cut-step (b .args .plan .now) (b .args .run .lines) (b .args .ended) (b .args .input .now) (b .args .output .now) (c .before .before .before .before .before .before .before .before .before .before .if1 .left) (c .before .before .before .before .before .before .before .before .before .if3 .left)
     (sym (c .before .before .before .before .before .before .before .is-kind .ensures) ∙ not-false _ (c .before .before .before .before .before .before .if4 .left)) _ (c .before .before .before .before .before .body-length .ensures .is) (c .before .before .before .before .if5 .taken) (c .before .before .cut-record .ensures)
-
-sub-whole-record : tie.Need-sub-whole-record
-sub-whole-record c = search needs
-
-part-whole-record-start : tie.Need-part-whole-record-start
-part-whole-record-start c = search needs
-
-part-whole-record-end : tie.Need-part-whole-record-end
-part-whole-record-end c = search needs
 
 whole-record-requires : tie.Need-whole-record-requires
 whole-record-requires c κs =
@@ -70,12 +37,6 @@ whole-record-requires c κs =
       c .before .before .before .before .before .before .before .before .if3 .left,
       b .pre .1,
     )
-
-same-length-3 : tie.Need-same-length-3
-same-length-3 c = search needs
-
-same-length-4 : tie.Need-same-length-4
-same-length-4 c = search needs
 
 returns-6 : tie.Need-returns-6
 returns-6 c =
@@ -91,20 +52,20 @@ step-by-spec =
     returns
     returns-2
     returns-3
-    shared-slice-read-kind
-    is-kind-requires
-    no-line-requires
-    same-length
+    (λ c. search needs)
+    (λ c κs. search needs)
+    (λ c κs. search needs)
+    (λ c. search needs)
     returns-4
-    body-length-requires
-    add-end
-    cut-record-requires
-    same-length-2
+    (λ c κs. search needs)
+    (λ c. search needs)
+    (λ c κs. search needs)
+    (λ c. search needs)
     returns-5
-    sub-whole-record
-    part-whole-record-start
-    part-whole-record-end
+    (λ c. search needs)
+    (λ c. search needs)
+    (λ c. search needs)
     whole-record-requires
-    same-length-3
-    same-length-4
+    (λ c. search needs)
+    (λ c. search needs)
     returns-6)

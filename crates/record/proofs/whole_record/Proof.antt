@@ -7,33 +7,15 @@ use Rattle.record.proofs.CallLines.{kept-line}
 use Rattle.record.proofs.whole_record.Statement.{statement}
 use Rattle.record.proofs.whole_record.Tie as tie
 
-is-call-requires : tie.Need-is-call-requires
-is-call-requires c κs = search needs
-
 call-record-requires : tie.Need-call-record-requires
 call-record-requires c κs =
     let b = c .before .before .before .before .before .before .before .before in
     (b .pre .0, sym (c .before .before .before .is-call .ensures) ∙ c .before .before .if1 .taken, b .pre .2, b .pre .3)
 
-same-length : tie.Need-same-length
-same-length c = search needs
-
-same-length-2 : tie.Need-same-length-2
-same-length-2 c = search needs
-
-returns : tie.Need-returns
-returns c = search needs
-
 read-record-requires : tie.Need-read-record-requires
 read-record-requires c κs =
     let b = c .before .before .before .before .before .before .before .before in
     (b .pre .0 .state, sym (c .before .before .before .is-call .ensures) ∙ c .before .before .if1 .left, b .pre .1, b .pre .2, b .pre .3, b .pre .4)
-
-same-length-3 : tie.Need-same-length-3
-same-length-3 c = search needs
-
-same-length-4 : tie.Need-same-length-4
-same-length-4 c = search needs
 
 returns-2 : tie.Need-returns-2
 returns-2 c =
@@ -44,12 +26,12 @@ pub whole-record-spec : {M : Type 1} → statement M
 whole-record-spec =
     tie.close
     (tie.spec
-    is-call-requires
+    (λ c κs. search needs)
     call-record-requires
-    same-length
-    same-length-2
-    returns
+    (λ c. search needs)
+    (λ c. search needs)
+    (λ c. search needs)
     read-record-requires
-    same-length-3
-    same-length-4
+    (λ c. search needs)
+    (λ c. search needs)
     returns-2)

@@ -17,53 +17,23 @@ Inv-loop sas settings lookup kind answer actions₀ e₀ i₀ actions e i =
 abbrev μ-loop : tie.MeasureT-loop
 μ-loop sas settings lookup kind answer actions₀ e₀ i₀ actions e i = length sas - i
 
-shared-slice-read-kind : tie.Need-shared-slice-read-kind Inv-loop μ-loop
-shared-slice-read-kind c = search needs
-
-wide-requires : tie.Need-wide-requires Inv-loop μ-loop
-wide-requires c κs = search needs
-
-add-answer : tie.Need-add-answer Inv-loop μ-loop
-add-answer c = search needs
-
-shared-slice-read-answer : tie.Need-shared-slice-read-answer Inv-loop μ-loop
-shared-slice-read-answer c = search needs
-
-no-effect-requires : tie.Need-no-effect-requires Inv-loop μ-loop
-no-effect-requires c κs = search needs
-
 loop-holds : tie.Need-loop-holds Inv-loop μ-loop
 loop-holds c =
     let g = c .before .before .before .before .before .before .before in
     (search needs, g .pre .few, search needs, rw (c .no-effect .ensures) (going-none (g .args .places) _ _ _ (search needs)))
-
-code-at-requires : tie.Need-code-at-requires Inv-loop μ-loop
-code-at-requires c κs = search needs
-
-served-with-requires : tie.Need-served-with-requires Inv-loop μ-loop
-served-with-requires c κs = search needs
 
 returns : tie.Need-returns Inv-loop μ-loop
 returns c =
     let l = c .before .before .before .loop in
     served-as (c .served-with .ensures) (served-all (l .inv .3) (omega (arith, l .inv .0, l .inv .1)) (c .before .before .code-at .ensures .ends (c .before .if1 .taken)))
 
-served-with-requires-2 : tie.Need-served-with-requires-2 Inv-loop μ-loop
-served-with-requires-2 c κs = search needs
-
 returns-2 : tie.Need-returns-2 Inv-loop μ-loop
 returns-2 c =
     let l = c .before .before .before .before .before .loop in
     served-as (c .served-with2 .ensures) (served-responded (l .inv .3) (omega (arith, l .inv .0, l .inv .1)) (c .before .before .before .before .code-at .ensures .goes (c .before .before .before .if1 .left)) (c .before .if2 .taken))
 
-code-listed-requires : tie.Need-code-listed-requires Inv-loop μ-loop
-code-listed-requires c κs = search needs
-
 array-write-actions : tie.Need-array-write-actions Inv-loop μ-loop
 array-write-actions c = let l = c .before .before .before .before .before .loop in omega (arith, l .inv .1, l .inv .2, c .before .before .before .before .code-at .ensures .inside (c .before .before .before .if1 .left))
-
-carry-out-requires : tie.Need-carry-out-requires Inv-loop μ-loop
-carry-out-requires c κs = search needs
 
 add-i : tie.Need-add-i Inv-loop μ-loop
 add-i c = omega (arith, c .before .before .before .before .before .code-at .ensures .inside (c .before .before .before .before .if1 .left))
@@ -91,20 +61,20 @@ serve-spec =
     (tie.spec
     Inv-loop
     μ-loop
-    shared-slice-read-kind
-    wide-requires
-    add-answer
-    shared-slice-read-answer
-    no-effect-requires
+    (λ c. search needs)
+    (λ c κs. search needs)
+    (λ c. search needs)
+    (λ c. search needs)
+    (λ c κs. search needs)
     loop-holds
-    code-at-requires
-    served-with-requires
+    (λ c κs. search needs)
+    (λ c κs. search needs)
     returns
-    served-with-requires-2
+    (λ c κs. search needs)
     returns-2
-    code-listed-requires
+    (λ c κs. search needs)
     array-write-actions
-    carry-out-requires
+    (λ c κs. search needs)
     add-i
     loop-less
     loop-again)

@@ -5,12 +5,9 @@ use Rattle.services.proofs.Going.{served-anew}
 use Rattle.services.proofs.service_stage.Statement.{statement}
 use Rattle.services.proofs.service_stage.Tie as tie
 
-serve-requires : tie.Need-serve-requires
-serve-requires c κs = search needs
-
 returns : tie.Need-returns
 unfolding zeros
 returns c = served-anew (c .serve .ensures)
 
 pub service-stage-spec : {M : Type 1} → statement M
-service-stage-spec = tie.close (tie.spec serve-requires returns)
+service-stage-spec = tie.close (tie.spec (λ c κs. search needs) returns)

@@ -8,12 +8,6 @@ use Rattle.stream.proofs.TurnLaws.{steps-at-hand, may-conclude}
 use Rattle.stream.proofs.advance.Statement.{statement}
 use Rattle.stream.proofs.advance.Tie as tie
 
-failed-requires : tie.Need-failed-requires
-failed-requires c κs = search needs
-
-unread-requires : tie.Need-unread-requires
-unread-requires c κs = search needs
-
 returns : tie.Need-returns
 returns c =
     inl
@@ -24,32 +18,8 @@ returns c =
       is = ap NotRead (c .unread .ensures);
     })
 
-ended-requires : tie.Need-ended-requires
-ended-requires c κs = search needs
-
-sub-pump : tie.Need-sub-pump
-sub-pump c = search needs
-
-part-pump-start : tie.Need-part-pump-start
-part-pump-start c = search needs
-
-part-pump-end : tie.Need-part-pump-end
-part-pump-end c = search needs
-
-pump-requires : tie.Need-pump-requires
-pump-requires c κs = search needs
-
-hand-requires : tie.Need-hand-requires
-hand-requires c κs = search needs
-
 conclude-requires : tie.Need-conclude-requires
 conclude-requires c κs = let b = c .before .before .before .before .before .before .before .before .before .before .before .before .before .before .before .before .before in may-conclude (b .args .input .now) (b .args .h) _ (b .pre) (c .before .before .before .before .before .before .pump .ensures)
-
-same-length : tie.Need-same-length
-same-length c = search needs
-
-same-length-2 : tie.Need-same-length-2
-same-length-2 c = search needs
 
 returns-2 : tie.Need-returns-2
 returns-2 c =
@@ -68,16 +38,16 @@ pub advance-spec : {M : Type 1} → statement M
 advance-spec =
     tie.close
     (tie.spec
-    failed-requires
-    unread-requires
+    (λ c κs. search needs)
+    (λ c κs. search needs)
     returns
-    ended-requires
-    sub-pump
-    part-pump-start
-    part-pump-end
-    pump-requires
-    hand-requires
+    (λ c κs. search needs)
+    (λ c. search needs)
+    (λ c. search needs)
+    (λ c. search needs)
+    (λ c κs. search needs)
+    (λ c κs. search needs)
     conclude-requires
-    same-length
-    same-length-2
+    (λ c. search needs)
+    (λ c. search needs)
     returns-2)

@@ -6,9 +6,6 @@ use Rattle.stream.proofs.Answers.{unwritten-so, goes-so, done-so}
 use Rattle.stream.proofs.conclude.Statement.{statement}
 use Rattle.stream.proofs.conclude.Tie as tie
 
-failed-requires : tie.Need-failed-requires
-failed-requires c κs = search needs
-
 returns : tie.Need-returns
 returns c = let b = c .before .before .before .before in unwritten-so (b .args .h) (b .args .p) (b .args .sink) (sym (c .before .failed .ensures) ∙ c .if1 .taken)
 
@@ -16,15 +13,6 @@ returns-2 : tie.Need-returns-2
 returns-2 c =
     let b = c .before .before .before .before .before .before in
     goes-so (b .args .h) (b .args .p) (b .args .sink) (sym (c .before .before .before .failed .ensures) ∙ c .before .before .if1 .left) (not-true _ (c .if2 .taken))
-
-sub-left : tie.Need-sub-left
-sub-left c = search needs
-
-given-requires : tie.Need-given-requires
-given-requires c κs = search needs
-
-sub-t12 : tie.Need-sub-t12
-sub-t12 c = search needs
 
 returns-3 : tie.Need-returns-3
 returns-3 c =
@@ -35,4 +23,4 @@ returns-3 c =
 pub conclude-spec : {M : Type 1} → statement M
 conclude-spec =
     tie.close
-    (tie.spec failed-requires returns returns-2 sub-left given-requires sub-t12 returns-3)
+    (tie.spec (λ c κs. search needs) returns returns-2 (λ c. search needs) (λ c κs. search needs) (λ c. search needs) returns-3)

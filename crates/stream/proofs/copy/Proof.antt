@@ -15,15 +15,6 @@ Inv-loop from to plan₀ input₀ output₀ rest₀ turns₀ plan input output r
 abbrev μ-loop : tie.MeasureT-loop
 μ-loop from to plan₀ input₀ output₀ rest₀ turns₀ plan input output rest turns = turns
 
-begin-requires : tie.Need-begin-requires Inv-loop μ-loop
-begin-requires c κs = search needs
-
-new-requires : tie.Need-new-requires Inv-loop μ-loop
-new-requires c κs = search needs
-
-new-requires-2 : tie.Need-new-requires-2 Inv-loop μ-loop
-new-requires-2 c κs = search needs
-
 loop-holds : tie.Need-loop-holds Inv-loop μ-loop
 loop-holds c =
     let b = c .before .before .before .before .before .before .before .before .before in
@@ -31,9 +22,6 @@ loop-holds c =
 
 turn-requires : tie.Need-turn-requires Inv-loop μ-loop
 turn-requires c κs = c .before .before .before .before .loop .inv .ready
-
-enum-known-t : tie.Need-enum-known-t Inv-loop μ-loop
-enum-known-t c = search needs
 
 same-length : tie.Need-same-length Inv-loop μ-loop
 same-length c = search (needs, c .before .before .before .before .before .before .before .before .before .before .before .before .loop .inv .plan-size)
@@ -49,12 +37,6 @@ returns c =
     let b = c .before .before .before .before .before .before .before .before .before .before .before .before .before .before .before .before .before .before .before .before .before .before in
     let none : (next : Rest) → c .before .before .before .before .before .before .before .turn .result ≡ Goes next → ⊥ = λ next e. never (rw e at (c .match .keys2)) in
     as-lent (b .fits .from) (b .fits .to) (c .before .before .before .before .before .before .before .before .before .before .before .before .before .before .before .before .before .begin .kept .0) (copying-last (c .before .before .before .before .before .before .before .before .before .before .before .before .loop .inv) (c .before .before .before .before .before .before .before .turn .ensures) none)
-
-sub-turns : tie.Need-sub-turns Inv-loop μ-loop
-sub-turns c = search needs
-
-loop-less : tie.Need-loop-less Inv-loop μ-loop
-loop-less c = search needs
 
 loop-again : tie.Need-loop-again Inv-loop μ-loop
 loop-again c =
@@ -79,18 +61,18 @@ copy-spec =
     (tie.spec
     Inv-loop
     μ-loop
-    begin-requires
-    new-requires
-    new-requires-2
+    (λ c κs. search needs)
+    (λ c κs. search needs)
+    (λ c κs. search needs)
     loop-holds
     turn-requires
-    enum-known-t
+    (λ c. search needs)
     same-length
     same-length-2
     same-length-3
     returns
-    sub-turns
-    loop-less
+    (λ c. search needs)
+    (λ c. search needs)
     loop-again
     same-length-4
     same-length-5

@@ -4,15 +4,6 @@ use Rattle.stream.specs.Turnings.{SupplyPromise}
 use Rattle.stream.proofs.gather.Statement.{statement}
 use Rattle.stream.proofs.gather.Tie as tie
 
-settle-requires : tie.Need-settle-requires
-settle-requires c κs = search needs
-
-supply-requires : tie.Need-supply-requires
-supply-requires c κs = search needs
-
-same-length : tie.Need-same-length
-same-length c = search needs
-
 returns : tie.Need-returns
 returns c =
     let b = c .before .before .before .before .before .before .before .before .before in
@@ -21,4 +12,4 @@ returns c =
     rw (t .ensures .0, t .ensures .1) at s
 
 pub gather-spec : {M : Type 1} → statement M
-gather-spec = tie.close (tie.spec settle-requires supply-requires same-length returns)
+gather-spec = tie.close (tie.spec (λ c κs. search needs) (λ c κs. search needs) (λ c. search needs) returns)

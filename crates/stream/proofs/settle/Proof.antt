@@ -5,24 +5,6 @@ use Rattle.stream.proofs.Answers.{settled}
 use Rattle.stream.proofs.settle.Statement.{statement}
 use Rattle.stream.proofs.settle.Tie as tie
 
-sub-shift-down : tie.Need-sub-shift-down
-sub-shift-down c = search needs
-
-part-shift-down-start : tie.Need-part-shift-down-start
-part-shift-down-start c = search needs
-
-part-shift-down-end : tie.Need-part-shift-down-end
-part-shift-down-end c = search needs
-
-shift-down-requires : tie.Need-shift-down-requires
-shift-down-requires c κs = search needs
-
-sub-result : tie.Need-sub-result
-sub-result c = search needs
-
-same-length : tie.Need-same-length
-same-length c = search needs
-
 returns : tie.Need-returns
 returns c =
     let b = c .before .before .before .before .before in
@@ -32,10 +14,10 @@ pub settle-spec : {M : Type 1} → statement M
 settle-spec =
     tie.close
     (tie.spec
-    sub-shift-down
-    part-shift-down-start
-    part-shift-down-end
-    shift-down-requires
-    sub-result
-    same-length
+    (λ c. search needs)
+    (λ c. search needs)
+    (λ c. search needs)
+    (λ c κs. search needs)
+    (λ c. search needs)
+    (λ c. search needs)
     returns)

@@ -5,26 +5,8 @@ use Rattle.stream.proofs.Answers.{none-at-end, none-for-whole, read-els
 use Rattle.stream.proofs.supply.Statement.{statement}
 use Rattle.stream.proofs.supply.Tie as tie
 
-ended-requires : tie.Need-ended-requires
-ended-requires c κs = search needs
-
 returns : tie.Need-returns
 returns c = let b = c .before .before .before in none-at-end (b .args .source) (b .args .left) (b .args .input .now) (sym (c .before .ended .ensures) ∙ c .if1 .taken)
-
-sub-is-whole : tie.Need-sub-is-whole
-sub-is-whole c = search needs
-
-part-is-whole-start : tie.Need-part-is-whole-start
-part-is-whole-start c = search needs
-
-part-is-whole-end : tie.Need-part-is-whole-end
-part-is-whole-end c = search needs
-
-is-whole-requires : tie.Need-is-whole-requires
-is-whole-requires c κs = search needs
-
-same-length : tie.Need-same-length
-same-length c = search needs
 
 returns-2 : tie.Need-returns-2
 returns-2 c =
@@ -36,9 +18,6 @@ fill-requires c κs =
     let b = c .before .before .before .before .before .before .before .before in
     may-read (b .args .source) (b .args .left) (b .args .input .now) (c .before .before .is-whole .ensures) (b .pre) (sym (c .before .before .before .before .before .before .ended .ensures) ∙ c .before .before .before .before .before .if1 .left) (c .before .if2 .left)
 
-same-length-2 : tie.Need-same-length-2
-same-length-2 c = search needs
-
 returns-3 : tie.Need-returns-3
 returns-3 c =
     let b = c .before .before .before .before .before .before .before .before .before .before .before in
@@ -48,14 +27,14 @@ pub supply-spec : {M : Type 1} → statement M
 supply-spec =
     tie.close
     (tie.spec
-    ended-requires
+    (λ c κs. search needs)
     returns
-    sub-is-whole
-    part-is-whole-start
-    part-is-whole-end
-    is-whole-requires
-    same-length
+    (λ c. search needs)
+    (λ c. search needs)
+    (λ c. search needs)
+    (λ c κs. search needs)
+    (λ c. search needs)
     returns-2
     fill-requires
-    same-length-2
+    (λ c. search needs)
     returns-3)

@@ -18,30 +18,15 @@ abbrev μ-loop : tie.MeasureT-loop
 loop-holds : tie.Need-loop-holds Inv-loop μ-loop
 loop-holds c = let g = c .before .before in texts-none (g .args .digits .now) (g .args .out .now) (g .pre .1)
 
-shared-slice-read-digit-text : tie.Need-shared-slice-read-digit-text Inv-loop μ-loop
-shared-slice-read-digit-text c = search needs
-
 digit-text-requires : tie.Need-digit-text-requires Inv-loop μ-loop
 digit-text-requires c κs =
     let g = c .before .before .before .before .before in
     next-digit (g .args .digits .now) (g .pre .0) (c .before .loop-test .taken)
 
-slice-write-out : tie.Need-slice-write-out Inv-loop μ-loop
-slice-write-out c = search needs
-
-add-i : tie.Need-add-i Inv-loop μ-loop
-add-i c = search needs
-
-loop-less : tie.Need-loop-less Inv-loop μ-loop
-loop-less c = search needs
-
 loop-again : tie.Need-loop-again Inv-loop μ-loop
 loop-again c =
     let g = c .before .before .before .before .before .before in
     texts-more (g .args .digits .now) (c .before .before .before .loop .inv) (c .before .before .loop-test .taken) (c .digit-text .ensures)
-
-same-length : tie.Need-same-length Inv-loop μ-loop
-same-length c = search needs
 
 returns : tie.Need-returns Inv-loop μ-loop
 returns c = texts-all (c .before .before .before .before .args .digits .now) (c .before .loop .inv) (c .loop-test .left)
@@ -53,11 +38,11 @@ few-to-text-spec =
     Inv-loop
     μ-loop
     loop-holds
-    shared-slice-read-digit-text
+    (λ c. search needs)
     digit-text-requires
-    slice-write-out
-    add-i
-    loop-less
+    (λ c. search needs)
+    (λ c. search needs)
+    (λ c. search needs)
     loop-again
-    same-length
+    (λ c. search needs)
     returns)

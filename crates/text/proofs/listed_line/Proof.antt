@@ -8,18 +8,6 @@ use borrow.Author.Needs.{needs}
 use Rattle.text.proofs.listed_line.Statement.{statement}
 use Rattle.text.proofs.listed_line.Tie as tie
 
-wide-requires : tie.Need-wide-requires
-wide-requires c κs = search needs
-
-cast-set : tie.Need-cast-set
-cast-set c = search needs
-
-sub-write-class-and-prefix : tie.Need-sub-write-class-and-prefix
-sub-write-class-and-prefix c = search needs
-
-part-write-class-and-prefix-start : tie.Need-part-write-class-and-prefix-start
-part-write-class-and-prefix-start c = search needs
-
 part-write-class-and-prefix-end : tie.Need-part-write-class-and-prefix-end
 part-write-class-and-prefix-end c =
     let g = c .before .before .before .before .before in
@@ -32,27 +20,12 @@ write-class-and-prefix-requires c κs =
     let e = c .before .before .before .before .before .wide .ensures .is in
     (prefix-digits (g .args .rule) _ e (g .pre .0), omega (arith, prefix-short (g .args .rule) _ e (g .pre .0), g .pre .1))
 
-sub-write-length-and-set : tie.Need-sub-write-length-and-set
-sub-write-length-and-set c = search needs
-
-part-write-length-and-set-start : tie.Need-part-write-length-and-set-start
-part-write-length-and-set-start c = search needs
-
-part-write-length-and-set-end : tie.Need-part-write-length-and-set-end
-part-write-length-and-set-end c = search needs
-
 write-length-and-set-requires : tie.Need-write-length-and-set-requires
 write-length-and-set-requires c κs =
     let g = c .before .before .before .before .before .before .before .before .before .before .before in
     let w = c .before .before .before .write-class-and-prefix .ensures in
     let l = half-short (g .args .rule) _ (c .before .before .before .before .before .before .before .before .before .wide .ensures .is) (g .pre .0) (search needs) in
     (search needs, room-behind w 12 (omega (arith, w .count-is, l, g .pre .1)))
-
-add-result : tie.Need-add-result
-add-result c = search needs
-
-same-length : tie.Need-same-length
-same-length c = search needs
 
 returns : tie.Need-returns
 returns c =
@@ -63,16 +36,16 @@ pub listed-line-spec : {M : Type 1} → statement M
 listed-line-spec =
     tie.close
     (tie.spec
-    wide-requires
-    cast-set
-    sub-write-class-and-prefix
-    part-write-class-and-prefix-start
+    (λ c κs. search needs)
+    (λ c. search needs)
+    (λ c. search needs)
+    (λ c. search needs)
     part-write-class-and-prefix-end
     write-class-and-prefix-requires
-    sub-write-length-and-set
-    part-write-length-and-set-start
-    part-write-length-and-set-end
+    (λ c. search needs)
+    (λ c. search needs)
+    (λ c. search needs)
     write-length-and-set-requires
-    add-result
-    same-length
+    (λ c. search needs)
+    (λ c. search needs)
     returns)

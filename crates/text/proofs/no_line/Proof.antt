@@ -5,18 +5,6 @@ use borrow.Author.Needs.{needs}
 use Rattle.text.proofs.no_line.Statement.{statement}
 use Rattle.text.proofs.no_line.Tie as tie
 
-slice-aggregate-write-counted : tie.Need-slice-aggregate-write-counted
-slice-aggregate-write-counted c = search needs
-
-wide-requires : tie.Need-wide-requires
-wide-requires c κs = search needs
-
-write-counted-requires : tie.Need-write-counted-requires
-write-counted-requires c κs = search needs
-
-same-length : tie.Need-same-length
-same-length c = search needs
-
 returns : tie.Need-returns
 returns c = named (no-is (c .before .before .before .before .before .before .before .args .refusal) _ (c .before .before .before .before .wide .ensures .is)) (c .before .before .write-counted .ensures)
 
@@ -24,8 +12,8 @@ pub no-line-spec : {M : Type 1} → statement M
 no-line-spec =
     tie.close
     (tie.spec
-    slice-aggregate-write-counted
-    wide-requires
-    write-counted-requires
-    same-length
+    (λ c. search needs)
+    (λ c κs. search needs)
+    (λ c κs. search needs)
+    (λ c. search needs)
     returns)

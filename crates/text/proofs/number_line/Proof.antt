@@ -9,40 +9,16 @@ use borrow.Author.Needs.{needs}
 use Rattle.text.proofs.number_line.Statement.{statement}
 use Rattle.text.proofs.number_line.Tie as tie
 
-no-line-requires : tie.Need-no-line-requires
-no-line-requires c κs = search needs
-
-same-length : tie.Need-same-length
-same-length c = search needs
-
 returns : tie.Need-returns
 returns c =
     let a = c .before .before .before .before .before .before .before .before .args in
     named (refused-is (answerIn (a .answer) (a .digits .now)) (c .before .before .before .before .if1 .taken)) (c .before .before .no-line .ensures)
-
-write-head-requires : tie.Need-write-head-requires
-write-head-requires c κs = search needs
-
-sub-write-digits : tie.Need-sub-write-digits
-sub-write-digits c = search needs
-
-part-write-digits-start : tie.Need-part-write-digits-start
-part-write-digits-start c = search needs
-
-part-write-digits-end : tie.Need-part-write-digits-end
-part-write-digits-end c = search needs
 
 write-digits-requires : tie.Need-write-digits-requires
 write-digits-requires c κs =
     let g = c .before .before .before .before .before .before .before .before .before in
     let w = c .before .before .before .write-head .ensures in
     (g .pre .0 .digits, room-behind w (suc (length (g .args .digits .now))) (omega (arith, g .pre .0 .few, g .pre .1)), room-behind w 2 (omega (arith, g .pre .1)))
-
-add-result : tie.Need-add-result
-add-result c = search needs
-
-same-length-2 : tie.Need-same-length-2
-same-length-2 c = search needs
 
 returns-2 : tie.Need-returns-2
 returns-2 c =
@@ -54,14 +30,14 @@ pub number-line-spec : {M : Type 1} → statement M
 number-line-spec =
     tie.close
     (tie.spec
-    no-line-requires
-    same-length
+    (λ c κs. search needs)
+    (λ c. search needs)
     returns
-    write-head-requires
-    sub-write-digits
-    part-write-digits-start
-    part-write-digits-end
+    (λ c κs. search needs)
+    (λ c. search needs)
+    (λ c. search needs)
+    (λ c. search needs)
     write-digits-requires
-    add-result
-    same-length-2
+    (λ c. search needs)
+    (λ c. search needs)
     returns-2)

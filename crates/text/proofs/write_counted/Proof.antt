@@ -5,27 +5,6 @@ use borrow.Author.Needs.{needs}
 use Rattle.text.proofs.write_counted.Statement.{statement}
 use Rattle.text.proofs.write_counted.Tie as tie
 
-copy-requires : tie.Need-copy-requires
-copy-requires c κs = search needs
-
-sub-write-number : tie.Need-sub-write-number
-sub-write-number c = search needs
-
-part-write-number-start : tie.Need-part-write-number-start
-part-write-number-start c = search needs
-
-part-write-number-end : tie.Need-part-write-number-end
-part-write-number-end c = search needs
-
-write-number-requires : tie.Need-write-number-requires
-write-number-requires c κs = search needs
-
-add-result : tie.Need-add-result
-add-result c = search needs
-
-same-length : tie.Need-same-length
-same-length c = search needs
-
 returns : tie.Need-returns
 returns c =
     let g = c .before .before .before .before .before .before .before .before .before .before in
@@ -35,11 +14,11 @@ pub write-counted-spec : {M : Type 1} → statement M
 write-counted-spec =
     tie.close
     (tie.spec
-    copy-requires
-    sub-write-number
-    part-write-number-start
-    part-write-number-end
-    write-number-requires
-    add-result
-    same-length
+    (λ c κs. search needs)
+    (λ c. search needs)
+    (λ c. search needs)
+    (λ c. search needs)
+    (λ c κs. search needs)
+    (λ c. search needs)
+    (λ c. search needs)
     returns)

@@ -10,20 +10,11 @@ use Rattle.blocks.proofs.EndianLaws.{block-back}
 use Rattle.text.proofs.write_eight.Statement.{statement}
 use Rattle.text.proofs.write_eight.Tie as tie
 
-eight-requires : tie.Need-eight-requires
-eight-requires c κs = search needs
-
 text-of-eight-requires : tie.Need-text-of-eight-requires
 text-of-eight-requires c κs =
     let g = c .before .before .before .before in
     let e = block-back (g .args .digits .now) _ (g .pre .0) (λ k. omega (arith, c .before .before .before .shared-slice-known .given k)) (c .eight .ensures) in
     rw e (g .pre .2)
-
-put-eight-requires : tie.Need-put-eight-requires
-put-eight-requires c κs = search needs
-
-same-length : tie.Need-same-length
-same-length c = search needs
 
 returns : tie.Need-returns
 returns c =
@@ -33,4 +24,4 @@ returns c =
     ∙ ap (λ (x : List ℕ). writtenOver x (g .args .out .now)) (c .before .before .before .text-of-eight .ensures ∙ ap (map digitText) e)
 
 pub write-eight-spec : {M : Type 1} → statement M
-write-eight-spec = tie.close (tie.spec eight-requires text-of-eight-requires put-eight-requires same-length returns)
+write-eight-spec = tie.close (tie.spec (λ c κs. search needs) text-of-eight-requires (λ c κs. search needs) (λ c. search needs) returns)

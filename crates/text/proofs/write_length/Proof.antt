@@ -7,26 +7,11 @@ use borrow.Author.Needs.{needs}
 use Rattle.text.proofs.write_length.Statement.{statement}
 use Rattle.text.proofs.write_length.Tie as tie
 
-slice-write-out : tie.Need-slice-write-out
-slice-write-out c = search needs
-
 slice-write-out-2 : tie.Need-slice-write-out-2
 slice-write-out-2 c = simp length-set (omega arith)
 
-same-length : tie.Need-same-length
-same-length c = search needs
-
 returns : tie.Need-returns
 returns c = length-wild (c .before .before .args .len) (c .before .before .args .out .now) (c .if1 .taken) (omega arith)
-
-wide-requires : tie.Need-wide-requires
-wide-requires c κs = search needs
-
-write-number-requires : tie.Need-write-number-requires
-write-number-requires c κs = search needs
-
-same-length-2 : tie.Need-same-length-2
-same-length-2 c = search needs
 
 returns-2 : tie.Need-returns-2
 returns-2 c = named (length-stated (c .before .before .before .before .before .before .before .args .len) _ (c .before .before .before .before .wide .ensures .is) (c .before .before .before .before .before .if1 .left)) (c .before .before .write-number .ensures)
@@ -35,11 +20,11 @@ pub write-length-spec : {M : Type 1} → statement M
 write-length-spec =
     tie.close
     (tie.spec
-    slice-write-out
+    (λ c. search needs)
     slice-write-out-2
-    same-length
+    (λ c. search needs)
     returns
-    wide-requires
-    write-number-requires
-    same-length-2
+    (λ c κs. search needs)
+    (λ c κs. search needs)
+    (λ c. search needs)
     returns-2)

@@ -6,29 +6,11 @@ use borrow.Author.Needs.{needs}
 use Rattle.text.proofs.write_length_and_set.Statement.{statement}
 use Rattle.text.proofs.write_length_and_set.Tie as tie
 
-write-length-requires : tie.Need-write-length-requires
-write-length-requires c κs = search needs
-
-sub-write-number : tie.Need-sub-write-number
-sub-write-number c = search needs
-
-part-write-number-start : tie.Need-part-write-number-start
-part-write-number-start c = search needs
-
-part-write-number-end : tie.Need-part-write-number-end
-part-write-number-end c = search needs
-
 write-number-requires : tie.Need-write-number-requires
 write-number-requires c κs =
     let g = c .before .before .before .before .before .before in
     let w = c .before .before .before .write-length .ensures in
     (g .pre .0, room-behind w 6 (omega (arith, w .count-is, length-short (g .args .len) (search needs), g .pre .1)))
-
-add-result : tie.Need-add-result
-add-result c = search needs
-
-same-length : tie.Need-same-length
-same-length c = search needs
 
 returns : tie.Need-returns
 returns c = text-behind (c .before .before .before .before .before .before .write-length .ensures) (c .before .before .write-number .ensures)
@@ -37,11 +19,11 @@ pub write-length-and-set-spec : {M : Type 1} → statement M
 write-length-and-set-spec =
     tie.close
     (tie.spec
-    write-length-requires
-    sub-write-number
-    part-write-number-start
-    part-write-number-end
+    (λ c κs. search needs)
+    (λ c. search needs)
+    (λ c. search needs)
+    (λ c. search needs)
     write-number-requires
-    add-result
-    same-length
+    (λ c. search needs)
+    (λ c. search needs)
     returns)

@@ -16,12 +16,6 @@ slice-write-out c =
     let w = c .before .before .write-decimal .ensures in
     omega (arith, w .count-is, kept-long w, decimal-short (g .args .n) (g .pre .0))
 
-add-result : tie.Need-add-result
-add-result c = search needs
-
-same-length : tie.Need-same-length
-same-length c = search needs
-
 returns : tie.Need-returns
 returns c =
     let g = c .before .before .before .before .before in
@@ -30,4 +24,4 @@ returns c =
 
 pub write-number-spec : {M : Type 1} → statement M
 write-number-spec =
-    tie.close (tie.spec write-decimal-requires slice-write-out add-result same-length returns)
+    tie.close (tie.spec write-decimal-requires slice-write-out (λ c. search needs) (λ c. search needs) returns)

@@ -5,14 +5,8 @@ use borrow.Author.Needs.{needs}
 use Rattle.text.proofs.write_prefix.Statement.{statement}
 use Rattle.text.proofs.write_prefix.Tie as tie
 
-write-digits-requires : tie.Need-write-digits-requires
-write-digits-requires c κs = search needs
-
-same-length : tie.Need-same-length
-same-length c = search needs
-
 returns : tie.Need-returns
 returns c = named (rw (prefix-is (c .before .before .before .before .before .before .args .prefix .now))) (c .before .before .write-digits .ensures)
 
 pub write-prefix-spec : {M : Type 1} → statement M
-write-prefix-spec = tie.close (tie.spec write-digits-requires same-length returns)
+write-prefix-spec = tie.close (tie.spec (λ c κs. search needs) (λ c. search needs) returns)
