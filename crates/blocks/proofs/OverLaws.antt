@@ -1,13 +1,14 @@
 -- Bytes written over the front of a buffer, one run of them behind another, or over the end of the one before.
 use Prim.Native.Nat.{ℕ, _+_, _-_, _≤_}
 use mathlib.Core.Path.{_≡_, sym, ap, _∙_}
-use mathlib.Core.List.{List, [], _++_, append-assoc, append-nil}
+use mathlib.Core.List.{List, _++_, append-assoc}
 use native.Mathlib.Omega.{arith}
 use lib.ListN.{length, take, drop, length-append, length-drop}
-use lib.Seq.{take-all, take-at, drop-at, drop-drop, drop-length, take-take, take-add, take-append-le, length-take-le}
-use borrow.Rule.Slice.PartMut.{putMid, midOf, post-is}
+use lib.Seq.{take-at, drop-at, drop-drop, take-take, take-add, take-append-le, length-take-le}
+use borrow.Rule.Slice.PartMut.{putMid, midOf}
 use Rattle.meaning.specs.Basics.{writtenOver}
 use Rattle.buffer.proofs.Moves.{Seam}
+use Rattle.buffer.proofs.ListLaws.{rest-is, rest-back}
 
 pub length-over : (xs out : List ℕ) → length xs ≤ length out → length (writtenOver xs out) ≡ length out
 length-over xs out h = rw (length-append, length-drop) (omega arith)
@@ -18,17 +19,14 @@ module _ (xs ys out : List ℕ) {after : List ℕ} (n : ℕ) (first : after ≡ 
   after-long = ap length first ∙ length-over xs out (omega arith)
 
   lent-behind : midOf n (length after - n) after ≡ drop n out
-  lent-behind =
-      take-all (length after - n) (drop n after) (rw length-drop (omega arith))
-      ∙ (ap (drop n) first ∙ (drop-at xs (drop (length xs) out) n (sym n-is) ∙ ap (λ (k : ℕ). drop k out) (sym n-is)))
+  lent-behind = rest-is n after ∙ (ap (drop n) first ∙ (drop-at xs (drop (length xs) out) n (sym n-is) ∙ ap (λ (k : ℕ). drop k out) (sym n-is)))
 
   pub written-behind : (last : List ℕ) → last ≡ writtenOver ys (midOf n (length after - n) after) → putMid n (length after - n) after last ≡ writtenOver (xs ++ ys) out
   written-behind last e =
-      let z : drop (length after - n) (drop n after) ≡ [] = post-is n (length after) after (omega (arith, after-long)) ∙ drop-length after in
       let t : take n after ≡ xs = ap (take n) first ∙ take-at xs (drop (length xs) out) n (sym n-is) in
       let l : length (xs ++ ys) ≡ n + length ys = length-append xs ys ∙ omega arith in
       let s : last ≡ ys ++ drop (length ys) (drop n out) = e ∙ ap (writtenOver ys) lent-behind in
-      rw (t, z, append-nil, s, drop-drop, l, append-assoc)
+      rest-back n after last (omega (arith, after-long)) ∙ rw (t, s, drop-drop, l, append-assoc)
 
 -- the same where what was lent is so many bytes by number, as a part of an array is
 pub array-behind : (xs ys out : List ℕ) {after : List ℕ} (n k : ℕ) → k ≡ length after - n → after ≡ writtenOver xs out → n ≡ length xs → n + length ys ≤ length out
@@ -51,11 +49,10 @@ seam-block {x} {m} {s} {i} g j n seen new inside {last} e =
     let rest : drop i s ≡ drop i m = ap (drop i) (g .bytes) ∙ drop-at (take i x) (drop i m) i (length-take-le i x (g .below)) in
     let behind : drop (j + n) s ≡ drop (j + n) m =
     rw k (sym (drop-drop (j + n - i) i s) ∙ (ap (drop (j + n - i)) rest ∙ drop-drop (j + n - i) i m)) in
-    let lent : midOf j (length s - j) s ≡ drop j s = take-all (length s - j) (drop j s) (rw length-drop (omega arith)) in
-    let none : drop (length s - j) (drop j s) ≡ [] = post-is j (length s) s (omega (arith, g .below, g .room, g .long)) ∙ drop-length s in
     let l : length (take n (drop j x)) ≡ n = length-take-le n (drop j x) (rw length-drop (omega arith)) in
-    let w : last ≡ take n (drop j x) ++ drop (j + n) m = e ∙ rw (lent, l, drop-drop, behind) in
-    let b : putMid j (length s - j) s last ≡ take (j + n) x ++ drop (j + n) m = rw (front, none, w, append-nil, take-add, append-assoc) in
+    let w : last ≡ take n (drop j x) ++ drop (j + n) m = e ∙ rw (rest-is j s, l, drop-drop, behind) in
+    let b : putMid j (length s - j) s last ≡ take (j + n) x ++ drop (j + n) m =
+    rest-back j s last (omega (arith, g .below, g .room, g .long)) ∙ rw (front, w, take-add, append-assoc) in
     record {
       below = inside;
       room = g .room;

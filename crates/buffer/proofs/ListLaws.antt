@@ -1,13 +1,18 @@
 -- Parts of lists; elements put in, taken out and replaced at a place; and what a function of each element sees.
 use Prim.Native.Nat.{ℕ, zero, suc, _+_, _-_, _≤_, _<_}
 use mathlib.Core.Path.{_≡_, refl, sym, ap, ap₂, _∙_}
-use mathlib.Core.List.{List, [], _∷_, _++_, map, map-append}
+use mathlib.Core.List.{List, [], _∷_, _++_, map, map-append, append-nil}
 use mathlib.Core.Option.{none, some}
 use native.Mathlib.Nat.{not-suc-le-zero, le-of-suc-le-suc, sub-zero}
 use native.Mathlib.Omega.{arith}
-use lib.Seq.{take-nil, take-take, take-all}
+use lib.Seq.{take-nil, take-take, take-all, drop-length}
 use lib.ListN.{length, take, drop, getD, set, getElem?, length-append, length-take, length-drop}
+use borrow.Rule.Slice.PartMut.{putMid, post-is}
 use Rattle.buffer.specs.Slots.{insertAt, removeAt}
+
+-- a part that was lent to the end, and came back
+pub rest-back : (a : ℕ) (m ys : List ℕ) → a ≤ length m → putMid a (length m - a) m ys ≡ take a m ++ ys
+rest-back a m ys h = rw (post-is a (length m) m h ∙ drop-length m, append-nil)
 
 module _ {A : Type 0} where
   pub drop-take : (w k : ℕ) (xs : List A) → w ≤ k → drop w (take k xs) ≡ take (k - w) (drop w xs)

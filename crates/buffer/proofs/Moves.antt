@@ -6,9 +6,10 @@ use native.Mathlib.Nat.{not-suc-le-zero, le-of-suc-le-suc, zero-add, suc-add, le
 use native.Mathlib.Numerals.{add-one}
 use native.Mathlib.Omega.{arith}
 use lib.ListN.{length, take, drop, getD, set, length-set, take-append-drop, drop-of-length-le, length-drop}
-use lib.Seq.{take-length, drop-cons, drop-at, take-at, length-take-le, drop-length}
-use borrow.Rule.Slice.PartMut.{putMid, midOf, postOf, post-is, mid-len}
+use lib.Seq.{take-length, drop-cons, drop-at, take-at, length-take-le}
+use borrow.Rule.Slice.PartMut.{putMid, midOf, mid-len}
 use Rattle.buffer.specs.Zeros.{zeros}
+use Rattle.buffer.proofs.ListLaws.{rest-back}
 
 -- a front that is x's, a rest that is m's: a store of x's next byte moves the seam up
 seam-up : (x m : List ℕ) (i : ℕ) → i < length x → i < length m
@@ -107,9 +108,7 @@ pub pop-parts : (s s₁ z : List ℕ) (w : ℕ) → w ≤ length s → s₁ ≡ 
 pop-parts s s₁ z w h e l q =
     let k : length s₁ - (length s₁ - w) ≡ w = omega arith in
     let n : length (midOf (length s₁ - w) (length s₁ - (length s₁ - w)) s₁) ≡ w = mid-len (length s₁ - w) (length s₁) s₁ (le-refl _) ∙ k in
-    let p : postOf (length s₁ - w) (length s₁ - (length s₁ - w)) s₁ ≡ [] = post-is (length s₁ - w) (length s₁) s₁ (omega arith) ∙ drop-length s₁ in
     let t : take (length s₁ - w) s₁ ≡ drop w s =
     ap (λ (r : List ℕ). take (length s₁ - w) r) e ∙ take-at (drop w s) (drop (length s - w) s) (length s₁ - w) (length-drop w s ∙ ap (λ (j : ℕ). j - w) (sym l)) in
     let y : z ≡ zeros w = q ∙ ap (λ (j : ℕ). zeros j) n in
-    ap (λ (r : List ℕ). take (length s₁ - w) s₁ ++ (z ++ r)) p
-    ∙ ap (λ (r : List ℕ). take (length s₁ - w) s₁ ++ r) (append-nil z ∙ y) ∙ ap (λ (r : List ℕ). r ++ zeros w) t
+    rest-back (length s₁ - w) s₁ z (omega arith) ∙ rw (t, y)

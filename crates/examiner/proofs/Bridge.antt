@@ -24,7 +24,7 @@ use Rattle.plan.specs.Layout.{slotImage, ruleImage, headerImage, setsImage, rul
 use Rattle.plan.specs.State.{soundTests, soundOf}
 use Rattle.plan.proofs.ImageLaws.{header-size, sets-size, SoundMemory, sound-memory}
 use Rattle.examiner.specs.Examined.{fixedPass, headerPasses, areasPass, setArea, ruleArea, examined, Sized}
-use Rattle.examiner.proofs.Bytes.{Bytes, bytes-take, bytes-drop}
+use Rattle.blocks.proofs.EndianLaws.{Bytes, bytes-front, bytes-behind}
 use Rattle.examiner.proofs.Headers.{Header, header-parts, header-of, header-numbers, header-image, image-fixed}
 use Rattle.examiner.proofs.Held.{Held, length-sets, held-of, held-pass}
 
@@ -163,8 +163,8 @@ module _ (m : List ℕ) where
       to t =
           let h : Header m = header-parts m (and-left (headerPasses m) (areasPass (setRoom m) sets (ruleCount m) rules) t) in
           let k : Held (setRoom m) sets (ruleCount m) free rules =
-          held-of (setRoom m) sets (ruleCount m) free rules (set-size h) (rule-size h) (bytes-take (SET-WIDTH * setRoom m) (drop SETS-AT m) (bytes-drop SETS-AT m b))
-          (bytes-take (RULE-WIDTH * ruleRoom m) (drop (SETS-AT + SET-WIDTH * setRoom m) m) (bytes-drop (SETS-AT + SET-WIDTH * setRoom m) m b))
+          held-of (setRoom m) sets (ruleCount m) free rules (set-size h) (rule-size h) (bytes-front (SET-WIDTH * setRoom m) (drop SETS-AT m) (bytes-behind SETS-AT m b))
+          (bytes-front (RULE-WIDTH * ruleRoom m) (drop (SETS-AT + SET-WIDTH * setRoom m) m) (bytes-behind (SETS-AT + SET-WIDTH * setRoom m) m b))
           (and-right (headerPasses m) (areasPass (setRoom m) sets (ruleCount m) rules) t) in
           passing-sound h k b
 

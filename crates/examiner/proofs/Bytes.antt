@@ -1,30 +1,18 @@
 -- Lists of bytes: their parts, unused ones, and a two-byte number, whose bytes are found again since they are bytes.
-use Prim.Native.Nat.{ℕ, zero, suc, _+_, _-_, _*_, _/_, _%_, _≤_, _<_}
+use Prim.Native.Nat.{ℕ, _+_, _-_, _*_, _/_, _%_, _≤_, _<_}
 use mathlib.Core.Path.{_≡_, ap, ap₂, sym, _∙_}
-use mathlib.Core.List.{List, [], _∷_, _++_}
+use mathlib.Core.List.{List, _++_}
 use native.Mathlib.Omega.{arith}
 use native.Mathlib.Nat.{div-add-mod', mod-lt}
 use lib.ListN.{length, take, drop, getD, length-drop}
-use lib.Seq.{take-all, length-take-le, getD-drop}
+use lib.Seq.{take-all, length-take-le}
 use lib.Dec.{T, lit<}
 use Rattle.meaning.specs.Basics.{all, isZero, word, part}
 use Rattle.buffer.specs.Zeros.{zeros}
 use Rattle.buffer.proofs.ZeroLaws.{all-zeros}
 use Rattle.actions.proofs.Lists.{next-two}
 use Rattle.plan.specs.Layout.{wordBytes}
-
--- every element is a byte
-abbrev pub Bytes : List ℕ → Type 0
-Bytes m = (i : ℕ) → getD m i 0 < 256
-
-pub bytes-drop : (a : ℕ) (m : List ℕ) → Bytes m → Bytes (drop a m)
-bytes-drop a m h i = rw (getD-drop a m i 0) (h (a + i))
-
-pub bytes-take : (n : ℕ) (m : List ℕ) → Bytes m → Bytes (take n m)
-bytes-take zero m h i = lit< tt
-bytes-take (suc n) [] h i = lit< tt
-bytes-take (suc n) (x ∷ m) h zero = h 0
-bytes-take (suc n) (x ∷ m) h (suc i) = bytes-take n m (λ j. h (suc j)) i
+use Rattle.blocks.proofs.EndianLaws.{Bytes}
 
 -- a number's two bytes are those that it was read from
 pub word-again : (b : List ℕ) (at : ℕ) → at + 1 < length b → Bytes b → wordBytes (word b at) ++ drop (at + 2) b ≡ drop at b

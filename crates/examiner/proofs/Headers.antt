@@ -18,7 +18,8 @@ use Rattle.filter.proofs.RuleLaws.{length-rules}
 use Rattle.plan.specs.Layout.{mark, wordBytes, headerImage, roomsAt, sizeOf, setRoom, ruleRoom, ruleCount, rulesFrom, planOf}
 use Rattle.plan.proofs.ImageLaws.{two-unused}
 use Rattle.examiner.specs.Examined.{fixedTests, fixedPass, openingTests, openingPasses, sizeTests, sizesPass, headerTests, headerPasses, Sized}
-use Rattle.examiner.proofs.Bytes.{Bytes, word-again, part-zeros}
+use Rattle.blocks.proofs.EndianLaws.{Bytes}
+use Rattle.examiner.proofs.Bytes.{word-again, part-zeros}
 
 -- WHAT A HEADER THAT PASSES HAS
 

@@ -22,7 +22,7 @@ use Rattle.filter.proofs.RuleLaws.{length-rules}
 use Rattle.plan.specs.Layout.{slotImage, ruleImage, slotOf, slotsOf}
 use Rattle.plan.proofs.ImageLaws.{slot-size, rule-size}
 use Rattle.examiner.specs.Examined.{slotTest, setFits, ruleTest, areasTests, areasPass}
-use Rattle.examiner.proofs.Bytes.{Bytes, bytes-take, bytes-drop}
+use Rattle.blocks.proofs.EndianLaws.{Bytes, bytes-front, bytes-behind}
 use Rattle.examiner.proofs.SetSlots.{slot-content, slot-image, image-passes}
 use Rattle.examiner.proofs.RuleSlots.{rule-code, rule-fits, rule-image, rule-passes}
 use Rattle.examiner.proofs.Rises.{rising-order, order-rising}
@@ -39,7 +39,7 @@ cut-slots w zero m h b = tt
 cut-slots w (suc n) m h b =
     let e : w * suc n ≡ w + w * n = times-next w n in
     let long : w * n ≤ length (drop w m) = rw (length-drop w m) (omega arith) in
-    ((length-take-le w m (omega arith), bytes-take w m b), cut-slots w n (drop w m) long (bytes-drop w m b))
+    ((length-take-le w m (omega arith), bytes-front w m b), cut-slots w n (drop w m) long (bytes-behind w m b))
 
 -- f reads a slot, g is its image, `ok` the test of a slot and `good` that of what it holds
 module _ {A : Type 0} (w : ℕ) (f : List ℕ → A) (g : A → List ℕ) (ok : List ℕ → Bool) (good : A → Bool) where

@@ -24,7 +24,8 @@ use Rattle.filter.proofs.RuleLaws.{filter-in}
 use Rattle.plan.specs.Layout.{wordBytes, ruleImage, slotsOf}
 use Rattle.plan.proofs.ImageLaws.{rule-back}
 use Rattle.examiner.specs.Examined.{setFits, ruleTests, ruleTest}
-use Rattle.examiner.proofs.Bytes.{Bytes, word-again, last-zeros}
+use Rattle.blocks.proofs.EndianLaws.{Bytes}
+use Rattle.examiner.proofs.Bytes.{word-again, last-zeros}
 use Rattle.examiner.proofs.SetSlots.{slot-behind, slot-empty, slot-held}
 
 -- A SLOT THAT PASSES

@@ -9,9 +9,10 @@ use lib.ListN.{length, take, drop, getD, set}
 use lib.Dec.{T}
 use Rattle.meaning.specs.Sizes.{RULE-WIDTH}
 use Rattle.meaning.specs.Basics.{all, any}
-use Rattle.meaning.specs.Filters.{Filter, filterOf, compareFilters, isLt, isBefore}
+use Rattle.meaning.specs.Filters.{Filter, filterOf, compareFilters, isBefore}
 use Rattle.meaning.specs.Rules.{Rule, filterIn, hasFilter, setNamed, inOrder, insert, rename, without}
 use Rattle.meaning.specs.History.{noRule}
+use Rattle.meaning.proofs.RuleLists.{is-lt}
 use Rattle.meaning.proofs.Tests.{and-left, and-right}
 use Rattle.meaning.proofs.ListingOrder.{filters}
 use Rattle.buffer.specs.Slots.{insertAt, removeAt}
@@ -53,12 +54,7 @@ module _ (f : Filter) where
 
 -- a filter that stands before every one of some rules is none of theirs
 before-true : (f g : Filter) → T (isBefore f g) → compareFilters f g ≡ Ordering·lt
-before-true f g t = go (compareFilters f g) t
-  where
-    go : (o : Ordering) → T (isLt o) → o ≡ Ordering·lt
-    go Ordering·lt t = refl
-    go Ordering·eq t = absurd t
-    go Ordering·gt t = absurd t
+before-true f g t = is-lt (compareFilters f g) t
 
 before-none : (f : Filter) (rs : List Rule) → T (all (λ (s : Rule). isBefore f (filterIn s)) rs) → any (hasFilter f) rs ≡ false
 before-none f [] t = refl

@@ -5,16 +5,17 @@ use mathlib.Core.Bool.{Bool, true, false, _||_}
 use mathlib.Core.List.{List, [], _∷_, _++_, append-assoc, append-nil}
 use native.Mathlib.Omega.{arith}
 use lib.ListN.{length, take, drop, getD, length-append}
-use lib.Seq.{take-append-add, length-take-le, drop-length}
+use lib.Seq.{take-append-add, length-take-le}
 use lib.Dec.{T, leb, eqb}
 use borrow.Author.Tests.{eq-eqb, le-leb, lt-leb, leb-true, leb-false}
-use borrow.Rule.Slice.PartMut.{putMid, midOf, post-is, same-len-mid}
+use borrow.Rule.Slice.PartMut.{putMid, midOf, same-len-mid}
 use Rattle.meaning.specs.Basics.{if_then_else_, contains}
 use Rattle.meaning.specs.Settings.{Settings, Lookup, settingsOf, lookupOf}
 use Rattle.meaning.specs.Actions.{LAST-CONDITIONED, RN, casOf, codesOf}
 use Rattle.meaning.specs.Conditioning.{valueFrom}
 use Rattle.meaning.specs.Services.{rnSet, valueToSend, join}
 use Rattle.meaning.proofs.Tests.{is-true}
+use Rattle.buffer.proofs.ListLaws.{rest-back}
 use Rattle.services.specs.declared.Served.{Served}
 use Rattle.services.specs.Stages.{stageOf, stageAfter, ServedAs}
 use Rattle.formatting.specs.Tables.{servedOver}
@@ -120,13 +121,11 @@ module _ {v : ℕ → List ℕ} {fas out : List ℕ} {i end : ℕ} (g : Joining 
     pub joining-more : (last : List ℕ) → end + n ≤ length out → length last ≡ length (midOf end (length out - end) out) → take n last ≡ v f
         → Joining v fas (i + 1) (end + n) (putMid end (length out - end) out last)
     joining-more last room long t =
-        let z : drop (length out - end) (drop end out) ≡ [] = post-is end (length out) out (g .inside) ∙ drop-length out in
-        let s : putMid end (length out - end) out last ≡ take end out ++ last = rw (z, append-nil) in
         let k : take (end + n) (take end out ++ last) ≡ take end out ++ take n last =
         ap (λ (m : ℕ). take (m + n) (take end out ++ last)) (sym front-long) ∙ take-append-add (take end out) last n in
         record {
           inside = rw (same-len-mid end (length out - end) out last long) room;
-          written = rw (s, k, t, append-assoc) next;
+          written = rw (rest-back end out last (g .inside), k, t, append-assoc) next;
         }
 
 pub joins-as : {ds es exit : List ℕ} {most r : ℕ} → ds ≡ es → JoinsInto ds most exit r → JoinsInto es most exit r

@@ -2,14 +2,14 @@
 use Prim.Native.Nat.{ℕ, _+_, _-_, _≤_, _<_, zero-le}
 use mathlib.Core.Path.{_≡_, refl, ap, ap₂, sym, subst, _∙_}
 use mathlib.Core.Bool.{Bool, true, false, true≢false, false≢true}
-use mathlib.Core.List.{List, [], _++_, append-assoc, append-nil}
+use mathlib.Core.List.{List, [], _++_, append-assoc}
 use native.Mathlib.Nat.{zero-add, add-assoc}
 use native.Mathlib.Omega.{arith}
-use lib.ListN.{length, take, drop, length-append, length-drop, drop-of-length-le}
+use lib.ListN.{length, take, drop, length-append, length-drop}
 use lib.Seq.{take-at, drop-at, take-add, drop-drop, drop-append-le, length-take-le}
-use borrow.Rule.Slice.PartMut.{midOf, putMid, postOf, post-is}
+use borrow.Rule.Slice.PartMut.{midOf, putMid}
 use Rattle.meaning.specs.Basics.{if_then_else_, writtenOver}
-use Rattle.buffer.proofs.ListLaws.{rest-is}
+use Rattle.buffer.proofs.ListLaws.{rest-is, rest-back}
 use Rattle.blocks.proofs.OverLaws.{length-over}
 use Rattle.run.specs.Runs.{InRun}
 use Rattle.record.specs.Turns.{turn}
@@ -25,12 +25,6 @@ use Rattle.pump.proofs.StepFacts.{writes-some, step-size}
 use Rattle.pump.specs.Pumps.{pumpedAs, PumpPromise}
 
 -- THE LENT PARTS
-
--- the output with the part from `end` on given back
-given-back : (out lent : List ℕ) (end : ℕ) → end ≤ length out → putMid end (length out - end) out lent ≡ take end out ++ lent
-given-back out lent end h =
-    let none-behind : postOf end (length out - end) out ≡ [] = let e : length out ≤ length out = omega arith in post-is end (length out) out h ∙ drop-of-length-le out e in
-    ap (λ (l : List ℕ). take end out ++ l) (ap (λ (l : List ℕ). lent ++ l) none-behind ∙ append-nil lent)
 
 -- what was written, and the bytes behind it
 module _ (text part lent : List ℕ) (is : lent ≡ writtenOver text part) (fits : length text ≤ length part) where
@@ -125,7 +119,7 @@ module _ {m : List ℕ} {run : Run} {ended : Bool} {input out now : List ℕ} {s
         let l = lent-long said (drop end left) lent (step .output-is) fits in
         length-append (take end left) lent ∙ rw (front-long left lent end here, l, length-drop end left) (omega (arith, here))
 
-    fits-behind : end + writtenBy r ≤ length out
+    pub fits-behind : end + writtenBy r ≤ length out
     fits-behind = omega (arith, step .inside, length-drop end left, g .long, here)
 
     back-behind : drop (end + writtenBy r) (take end left ++ lent) ≡ drop (end + writtenBy r) out
@@ -140,9 +134,6 @@ module _ {m : List ℕ} {run : Run} {ended : Bool} {input out now : List ℕ} {s
 
     pub after-size : length after ≡ length m
     after-size = step-size now (g .in-run .room) step ∙ g .size
-
-    pub more-bytes : end + writtenBy r ≤ length out
-    more-bytes = fits-behind
 
   -- where nothing was written
   module _ {after lent : List ℕ} {r : Stepped} (none : writtenBy r ≡ 0)
@@ -163,7 +154,7 @@ module _ {m : List ℕ} {run : Run} {ended : Bool} {input out now : List ℕ} {s
   going-more {after} {lent} {l} q =
       let p = step q in
       let taken : l .taken ≤ length (drop at input) = taken-inside p in
-      rw (given-back left lent end here)
+      rw (rest-back end left lent here)
       (record {
         in-run = next-in-run (g .in-run .room) p;
         size = step-size now (g .in-run .room) p ∙ g .size;
@@ -186,7 +177,7 @@ module _ {m : List ℕ} {run : Run} {ended : Bool} {input out now : List ℕ} {s
   going-stops full {after} {lent} q =
       let p = step q in
       let still = ap (turn (houseOf now) (so .lines) ended (drop at input)) room-left ∙ sym (p .turn-is) in
-      rw (given-back left lent end here, stopped-keeps full p)
+      rw (rest-back end left lent here, stopped-keeps full p)
       (record {
         goes-on = λ o rest texts e l r. rw (same-front (stopped-none full) q) (g .extends rest texts e l r);
         ends = λ o. absurd (false≢true o);
@@ -209,7 +200,7 @@ module _ {m : List ℕ} {run : Run} {ended : Bool} {input out now : List ℕ} {s
   going-ends {after} {lent} {l} q =
       let p = step q in
       let kept : after ≡ now = ends-keeps p in
-      rw (given-back left lent end here)
+      rw (rest-back end left lent here)
       (record {
         goes-on = λ o. absurd (true≢false o);
         ends = λ o rest e. rw (front-now q) (g .extends rest (take (l .written) lent) (runEndHere (l .refusal) after) e (last (cut rest e) p));
@@ -248,7 +239,7 @@ module _ {m : List ℕ} {run : Run} {ended : Bool} {input out now : List ℕ} {s
     line-takes e = taken-more (told e)
 
     pub line-fits : {l : Line} → r ≡ Wrote l → end + l .written ≤ length out
-    line-fits e = more-bytes (told e)
+    line-fits e = fits-behind (told e)
 
     pub line-less : {l : Line} → r ≡ Wrote l → length out - (end + l .written) < length out - end
     line-less e = less-room (told e)
@@ -264,4 +255,4 @@ module _ {m : List ℕ} {run : Run} {ended : Bool} {input out now : List ℕ} {s
     end-stops e = going-ends (told e)
 
     pub end-fits : {l : Last} → r ≡ Ends l → end + l .written ≤ length out
-    end-fits e = more-bytes (told e)
+    end-fits e = fits-behind (told e)

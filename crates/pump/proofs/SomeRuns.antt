@@ -3,7 +3,7 @@ use Prim.Native.Nat.{ℕ, zero, suc, _+_, _-_, _*_, _≤_, _<_}
 use mathlib.Core.Path.{_≡_, refl, ap, ap₂, sym, _∙_}
 use mathlib.Core.Logic.{_⊎_, inl, inr}
 use mathlib.Core.Bool.{true}
-use mathlib.Core.List.{List, [], _∷_, _++_, append-nil}
+use mathlib.Core.List.{List, [], _∷_, _++_}
 use native.Mathlib.Nat.{not-suc-le-zero}
 use native.Mathlib.Omega.{arith}
 use lib.ListN.{length, take, drop, length-drop}
@@ -18,11 +18,11 @@ use Rattle.plan.specs.State.{soundOf}
 use Rattle.changes.specs.Promise.{memoryOf}
 use Rattle.text.specs.Writes.{LONGEST}
 use Rattle.record.specs.Turns.{Turn, wrote, wants, full, ends, turn}
-use Rattle.record.specs.Cuts.{Cut}
 use Rattle.record.specs.Promises.{houseOf, lineOf, lastOf, turnOf, writtenBy, textOf, houseAfter, OpenedRight, StepPromise, RunEnd, runEndHere, runEndBehind, Runs, next, last}
 use Rattle.record.specs.declared.Run.{Run}
 use Rattle.record.specs.declared.Stepped.{Stepped}
 use Rattle.record.specs.declared.Stepped.the-variants.{Wrote, Wants, Full, Ends}
+use Rattle.record.proofs.Cuts.{whole-cut}
 use Rattle.record.proofs.Steps.{ended-no-wants, room-no-full, taken-inside, goes-on}
 use Rattle.pump.proofs.StepFacts.{turn-keeps, step-size}
 
@@ -93,9 +93,6 @@ pub record SomeRun (m : List ℕ) (run : Run) (left : List ℕ) : Type 0 where
   pub text : List ℕ
   pub end : RunEnd
   pub runs : Runs m run left text end
-
-whole-cut : (left : List ℕ) → Cut left left [] true
-whole-cut left = record { joins = sym (append-nil left); last = λ e. refl }
 
 abbrev most : ℕ → ℕ → ℕ
 most bytes lines = bytes * 4098 + (4097 - lines)

@@ -24,6 +24,7 @@ use Rattle.record.specs.Promises.{houseOf, textOf, houseAfter, StepPromise}
 use Rattle.record.specs.declared.Line.{Line}
 use Rattle.record.specs.declared.Stepped.{Stepped}
 use Rattle.record.specs.declared.Stepped.the-variants.{Wrote}
+use Rattle.record.proofs.AnswerFacts.{either}
 
 behind : (xs ys : List ℕ) → 1 ≤ length ys → 1 ≤ length (xs ++ ys)
 behind xs ys h = rw (length-append xs ys) (omega (arith, h))
@@ -32,10 +33,6 @@ line-long : (ws : List (List ℕ)) → 1 ≤ length (line ws)
 line-long [] = omega arith
 line-long (w ∷ []) = behind w (10 ∷ []) (omega arith)
 line-long (w ∷ v ∷ ws) = behind w (32 ∷ line (v ∷ ws)) (omega arith)
-
-either : (b : Bool) (x y : List ℕ) → 1 ≤ length x → 1 ≤ length y → 1 ≤ length (if b then x else y)
-either true x y h k = h
-either false x y h k = k
 
 no-long : (n : ℕ) → 1 ≤ length (noLine n)
 unfolding noLine
@@ -50,13 +47,13 @@ number-long : (a : Answer) → 1 ≤ length (numberLine a)
 unfolding numberLine
 number-long a =
     let words : List (List ℕ) = decimal (a .outcome) ∷ decimal (a .class) ∷ decimal (a .response) ∷ decimal (a .count) ∷ digitsText (a .digits) ∷ [] in
-    either (isZero (a .refusal)) (line words) (noLine (a .refusal)) (line-long words) (no-long (a .refusal))
+    either (λ (l : List ℕ). 1 ≤ length l) (isZero (a .refusal)) (line words) (noLine (a .refusal)) (line-long words) (no-long (a .refusal))
 
 refs-long : (c : Count) → 1 ≤ length (refsLine c)
 unfolding refsLine
 refs-long c =
     let words : List (List ℕ) = (114 ∷ 101 ∷ 102 ∷ 115 ∷ []) ∷ decimal (c .number) ∷ [] in
-    either (isZero (c .refusal)) (line words) (noLine (c .refusal)) (line-long words) (no-long (c .refusal))
+    either (λ (l : List ℕ). 1 ≤ length l) (isZero (c .refusal)) (line words) (noLine (c .refusal)) (line-long words) (no-long (c .refusal))
 
 listed-long : (l : Listed) → 1 ≤ length (listedLine l)
 unfolding listedLine

@@ -36,7 +36,7 @@ pub record Printable (a : Answer) : Type 0 where
 -- TESTS AND LISTS
 
 -- what holds of both holds of the one taken
-either : {A : Type 0} (P : A → Type 0) (b : Bool) (x y : A) → P x → P y → P (if b then x else y)
+pub either : {A : Type 0} (P : A → Type 0) (b : Bool) (x y : A) → P x → P y → P (if b then x else y)
 either P true x y s t = s
 either P false x y s t = t
 

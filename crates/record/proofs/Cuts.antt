@@ -249,7 +249,7 @@ empty-file text e r = any-cut [] text e r
 
 -- A RUN FOR EVERY FILE: each part is all that is left
 
-whole-cut : (left : List ℕ) → Cut left left [] true
+pub whole-cut : (left : List ℕ) → Cut left left [] true
 whole-cut left = record { joins = sym (append-nil left); last = λ e. refl }
 
 -- a step at a listing

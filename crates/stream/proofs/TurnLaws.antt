@@ -3,9 +3,9 @@ use Prim.Native.Nat.{ℕ, _+_, _-_, _≤_}
 use mathlib.Core.Path.{_≡_, refl, ap, ap₂, sym, subst, _∙_}
 use mathlib.Core.Logic.{_⊎_, inl, inr}
 use mathlib.Core.Bool.{Bool, true, false}
-use mathlib.Core.List.{List, [], _∷_, _++_, append-assoc}
+use mathlib.Core.List.{List, [], _++_, append-assoc}
 use native.Mathlib.Omega.{arith}
-use lib.ListN.{length, take, drop, length-drop, take-append-drop}
+use lib.ListN.{length, take, drop, length-drop, take-append-drop, drop-of-length-le}
 use lib.Dec.{ltb}
 use borrow.Author.Tests.{ltb-true, ltb-false}
 use lib.Seq.{take-take, drop-append-le, length-take-le}
@@ -93,11 +93,8 @@ module _ {m : List ℕ} {rest : Rest} {input output after input-left output-left
   pub none-behind : (more : List ℕ) → (h .source .ended ≡ true → more ≡ []) → rest .source .ended ≡ true → givenIn w ++ more ≡ []
   none-behind more e t =
       let n = at-hand .ended-none t in
-      ap₂ (λ (a b : List ℕ). a ++ b) (empty (givenIn w) (omega (arith, given-long, n .0))) (e (n .1))
-    where
-      empty : (l : List ℕ) → length l ≡ 0 → l ≡ []
-      empty [] e = refl
-      empty (x ∷ xs) e = absurd (omega (arith, e))
+      let none : length (givenIn w) ≤ 0 = omega (arith, given-long, n .0) in
+      ap₂ (λ (a b : List ℕ). a ++ b) (drop-of-length-le (givenIn w) none) (e (n .1))
 
   -- IT GOES ON
 

@@ -5,7 +5,7 @@ use mathlib.Core.List.{List, [], _∷_, _++_, map}
 use native.Mathlib.Nat.{not-suc-le-zero, le-of-suc-le-suc}
 use native.Mathlib.Omega.{arith}
 use lib.Dec.{T, leb→le}
-use lib.ListN.{length, take, drop, getD, set, length-append, length-map}
+use lib.ListN.{length, take, drop, getD, set, length-append, length-map, drop-of-length-le}
 use lib.Seq.{take-take}
 use borrow.Author.Tests.{lt-ltb, le-ltb}
 use borrow.Rule.Slice.PartMut.{putMid, midOf}
@@ -72,13 +72,9 @@ digits-some : (none : ℕ) (ds : List ℕ) → 0 < length ds → digitsOr none d
 digits-some none [] h = absurd (not-suc-le-zero h)
 digits-some none (d ∷ ds) h = refl
 
-no-list : (ds : List ℕ) → length ds ≡ 0 → ds ≡ []
-no-list [] e = refl
-no-list (d ∷ ds) e = absurd (omega (arith, e))
-
 module _ (none behind : ℕ) (ds out : List ℕ) where
   pub no-digits : length ds ≡ 0 → 2 ≤ length out → Writes (digitsOr none ds ++ behind ∷ []) out (set (set out 0 none) 1 behind) 2
-  no-digits e h = named (rw (no-list ds e)) (stored (none ∷ behind ∷ []) out h)
+  no-digits e h = let few : length ds ≤ 0 = omega arith in named (rw (drop-of-length-le ds few)) (stored (none ∷ behind ∷ []) out h)
 
   pub some-digits : (length ds ≡ 0 → ⊥) → length ds < length out → {after : List ℕ} → after ≡ writtenOver (map digitText ds) out
       → Writes (digitsOr none ds ++ behind ∷ []) out (set after (length ds) behind) (length ds + 1)

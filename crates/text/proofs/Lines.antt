@@ -2,17 +2,18 @@
 use Prim.Native.Nat.{ℕ, zero, suc, _+_, _-_, _*_, _/_, _%_, _^_, _≤_, _<_}
 use mathlib.Core.Path.{_≡_, refl, sym, ap, _∙_}
 use mathlib.Core.Bool.{Bool, true, false}
-use mathlib.Core.List.{List, [], _∷_, _++_, append-assoc, append-nil}
+use mathlib.Core.List.{List, [], _∷_, _++_}
 use native.Mathlib.Nat.{not-suc-le-zero, zero-add, pow-suc}
 use native.Mathlib.Omega.{arith}
 use lib.Dec.{ltb}
 use lib.ListN.{length, take, drop, getD, set, length-append, length-drop}
-use lib.Seq.{take-at, drop-at, set-at, drop-cons, drop-drop, drop-length, append-snoc, sets, sets-eq}
+use lib.Seq.{take-at, drop-at, set-at, drop-cons, append-snoc, sets, sets-eq}
 use borrow.Author.Tests.{lt-ltb, le-ltb, ltb-true, ltb-false}
-use borrow.Rule.Slice.PartMut.{putMid, midOf, post-is}
+use borrow.Rule.Slice.PartMut.{putMid, midOf}
 use Rattle.meaning.specs.Basics.{writtenOver}
 use Rattle.meaning.specs.Records.{decimalFrom, decimal}
 use Rattle.buffer.proofs.ListLaws.{rest-is}
+use Rattle.blocks.proofs.OverLaws.{written-behind}
 use Rattle.text.specs.Writes.{Writes}
 
 -- DECIMAL NUMBERS
@@ -132,11 +133,6 @@ module _ {xs out after : List ℕ} {n : ℕ} (w : Writes xs out after n) where
   pub text-behind : {ys last : List ℕ} {m : ℕ} → Writes ys (midOf n (length after - n) after) last m
       → Writes (xs ++ ys) out (putMid n (length after - n) after last) (n + m)
   text-behind {ys} {last} {m} v =
-      let z : drop (length after - n) (drop n after) ≡ [] = post-is n (length after) after (omega (arith, kept-long, w .inside)) ∙ drop-length after in
       let l : length (xs ++ ys) ≡ n + m = length-append xs ys ∙ omega (arith, w .count-is, v .count-is) in
-      let s : last ≡ ys ++ drop m (drop n out) = v .buffer-is ∙ rw (lent-behind, v .count-is) in
-      record {
-        count-is = sym l;
-        buffer-is = rw (front-is, z, append-nil, s, drop-drop, l, append-assoc);
-        inside = omega (arith, ap length lent-behind, length-drop n out, v .inside, w .inside);
-      }
+      let room : n + m ≤ length out = omega (arith, ap length lent-behind, length-drop n out, v .inside, w .inside) in
+      record { count-is = sym l; buffer-is = written-behind xs ys out n (w .buffer-is) (w .count-is) (rw (← v .count-is) room) last (v .buffer-is); inside = room }
