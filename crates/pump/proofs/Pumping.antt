@@ -97,14 +97,20 @@ module _ {m : List ℕ} {run : Run} {ended : Bool} {input out now : List ℕ} {s
   cut : (rest : List ℕ) → (ended ≡ true → rest ≡ []) → Cut (drop at (input ++ rest)) (drop at input) rest ended
   cut rest e = record { joins = drop-append-le at input rest (g .inside); last = e }
 
+  -- a step over the parts that are lent to it, and the output with its part given back
+  abbrev pub Step : List ℕ → List ℕ → Stepped → Type 0
+  Step after lent r = StepPromise now (so .lines) ended (take (length input - at) (drop at input)) (midOf end (length left - end) left) after lent r
+
+  abbrev pub given : List ℕ → List ℕ
+  given lent = putMid end (length left - end) left lent
+
   room-left : length out - end ≡ length (drop end left)
   room-left = sym (length-drop end left ∙ ap (λ (n : ℕ). n - end) (g .long))
 
   here : end ≤ length left
   here = omega (arith, g .room, g .long)
 
-  module _ {after lent : List ℕ} {r : Stepped}
-      (p : StepPromise now (so .lines) ended (take (length input - at) (drop at input)) (midOf end (length left - end) left) after lent r) where
+  module _ {after lent : List ℕ} {r : Stepped} (p : Step after lent r) where
     step : StepPromise now (so .lines) ended (drop at input) (drop end left) after lent r
     step = rw (← rest-is at input, ← rest-is end left) p
 
@@ -135,22 +141,9 @@ module _ {m : List ℕ} {run : Run} {ended : Bool} {input out now : List ℕ} {s
     pub after-size : length after ≡ length m
     after-size = step-size now (g .in-run .room) step ∙ g .size
 
-  -- where nothing was written
-  module _ {after lent : List ℕ} {r : Stepped} (none : writtenBy r ≡ 0)
-      (q : StepPromise now (so .lines) ended (take (length input - at) (drop at input)) (midOf end (length left - end) left) after lent r) where
-    nothing : end + writtenBy r ≡ end
-    nothing = omega (arith, none)
-
-    same-front : take end (take end left ++ lent) ≡ take end left
-    same-front = take-at (take end left) lent end (front-long left lent end here)
-
-    same-behind : drop end (take end left ++ lent) ≡ drop end out
-    same-behind = subst (λ (k : ℕ). drop k (take end left ++ lent) ≡ drop k out) nothing (back-behind q)
-
   -- a line was written
-  pub going-more : {after lent : List ℕ} {l : Line}
-      → StepPromise now (so .lines) ended (take (length input - at) (drop at input)) (midOf end (length left - end) left) after lent (Wrote l)
-      → Going m run ended input out after (l .run) (at + l .taken) (end + l .written) (putMid end (length left - end) left lent)
+  going-more : {after lent : List ℕ} {l : Line} → Step after lent (Wrote l)
+      → Going m run ended input out after (l .run) (at + l .taken) (end + l .written) (given lent)
   going-more {after} {lent} {l} q =
       let p = step q in
       let taken : l .taken ≤ length (drop at input) = taken-inside p in
@@ -171,19 +164,19 @@ module _ {m : List ℕ} {run : Run} {ended : Bool} {input out now : List ℕ} {s
       })
 
   -- nothing was written, and the memory is as it was
-  going-stops : (full : Bool) {after lent : List ℕ}
-      → StepPromise now (so .lines) ended (take (length input - at) (drop at input)) (midOf end (length left - end) left) after lent (stopped full)
-      → PumpPromise m run ended input out after (putMid end (length left - end) left lent) (pumpedAs at end so full false 0)
+  going-stops : (full : Bool) {after lent : List ℕ} → Step after lent (stopped full)
+      → PumpPromise m run ended input out after (given lent) (pumpedAs at end so full false 0)
   going-stops full {after} {lent} q =
       let p = step q in
+      let none : end + writtenBy (stopped full) ≡ end = omega (arith, stopped-none full) in
       let still = ap (turn (houseOf now) (so .lines) ended (drop at input)) room-left ∙ sym (p .turn-is) in
       rw (rest-back end left lent here, stopped-keeps full p)
       (record {
-        goes-on = λ o rest texts e l r. rw (same-front (stopped-none full) q) (g .extends rest texts e l r);
+        goes-on = λ o rest texts e l r. rw (take-at (take end left) lent end (front-long left lent end here)) (g .extends rest texts e l r);
         ends = λ o. absurd (false≢true o);
         none-yet = λ o. refl;
         idle = λ o. g .idle;
-        behind = same-behind (stopped-none full) q;
+        behind = rw none at (back-behind q);
         same-size = back-long q ∙ g .long;
         memory-size = g .size;
         inside = g .inside;
@@ -194,9 +187,8 @@ module _ {m : List ℕ} {run : Run} {ended : Bool} {input out now : List ℕ} {s
       })
 
   -- reading has ended, with the last line
-  pub going-ends : {after lent : List ℕ} {l : Last}
-      → StepPromise now (so .lines) ended (take (length input - at) (drop at input)) (midOf end (length left - end) left) after lent (Ends l)
-      → PumpPromise m run ended input out after (putMid end (length left - end) left lent) (pumpedAs at (end + l .written) so false true (l .refusal))
+  going-ends : {after lent : List ℕ} {l : Last} → Step after lent (Ends l)
+      → PumpPromise m run ended input out after (given lent) (pumpedAs at (end + l .written) so false true (l .refusal))
   going-ends {after} {lent} {l} q =
       let p = step q in
       let kept : after ≡ now = ends-keeps p in
@@ -216,42 +208,30 @@ module _ {m : List ℕ} {run : Run} {ended : Bool} {input out now : List ℕ} {s
         stops-full = λ f. absurd (false≢true f);
       })
 
-  -- what the next turn of the loop begins with
-  module _ {after lent : List ℕ} {l : Line}
-      (q : StepPromise now (so .lines) ended (take (length input - at) (drop at input)) (midOf end (length left - end) left) after lent (Wrote l)) where
-    pub taken-more : at + l .taken ≤ length input
-    taken-more = omega (arith, taken-inside (step q), length-drop at input, g .inside)
-
-    pub less-room : length out - (end + l .written) < length out - end
-    less-room = omega (arith, writes-some (step q), fits-behind q)
-
   -- by the answer of the step
-  module _ {after lent : List ℕ} {r : Stepped}
-      (q : StepPromise now (so .lines) ended (take (length input - at) (drop at input)) (midOf end (length left - end) left) after lent r) where
-    told : {x : Stepped} → r ≡ x
-        → StepPromise now (so .lines) ended (take (length input - at) (drop at input)) (midOf end (length left - end) left) after lent x
-    told e = subst (StepPromise now (so .lines) ended (take (length input - at) (drop at input)) (midOf end (length left - end) left) after lent) e q
+  module _ {after lent : List ℕ} {r : Stepped} (q : Step after lent r) where
+    told : {x : Stepped} → r ≡ x → Step after lent x
+    told e = subst (Step after lent) e q
 
-    pub line-goes : {l : Line} → r ≡ Wrote l → Going m run ended input out after (l .run) (at + l .taken) (end + l .written) (putMid end (length left - end) left lent)
+    pub line-goes : {l : Line} → r ≡ Wrote l → Going m run ended input out after (l .run) (at + l .taken) (end + l .written) (given lent)
     line-goes e = going-more (told e)
 
     pub line-takes : {l : Line} → r ≡ Wrote l → at + l .taken ≤ length input
-    line-takes e = taken-more (told e)
+    line-takes e = omega (arith, taken-inside (step (told e)), length-drop at input, g .inside)
 
     pub line-fits : {l : Line} → r ≡ Wrote l → end + l .written ≤ length out
     line-fits e = fits-behind (told e)
 
     pub line-less : {l : Line} → r ≡ Wrote l → length out - (end + l .written) < length out - end
-    line-less e = less-room (told e)
+    line-less e = omega (arith, writes-some (step (told e)), fits-behind (told e))
 
-    pub wants-stops : r ≡ Wants → PumpPromise m run ended input out after (putMid end (length left - end) left lent) (pumpedAs at end so false false 0)
+    pub wants-stops : r ≡ Wants → PumpPromise m run ended input out after (given lent) (pumpedAs at end so false false 0)
     wants-stops e = going-stops false (told e)
 
-    pub full-stops : r ≡ Full → PumpPromise m run ended input out after (putMid end (length left - end) left lent) (pumpedAs at end so true false 0)
+    pub full-stops : r ≡ Full → PumpPromise m run ended input out after (given lent) (pumpedAs at end so true false 0)
     full-stops e = going-stops true (told e)
 
-    pub end-stops : {l : Last} → r ≡ Ends l
-        → PumpPromise m run ended input out after (putMid end (length left - end) left lent) (pumpedAs at (end + l .written) so false true (l .refusal))
+    pub end-stops : {l : Last} → r ≡ Ends l → PumpPromise m run ended input out after (given lent) (pumpedAs at (end + l .written) so false true (l .refusal))
     end-stops e = going-ends (told e)
 
     pub end-fits : {l : Last} → r ≡ Ends l → end + l .written ≤ length out
