@@ -5,10 +5,10 @@ use mathlib.Core.Bool.{Bool, false}
 use mathlib.Core.List.{List, [], _∷_, _++_}
 use mathlib.Core.Option.{Option, none, some}
 use native.Mathlib.Omega.{arith}
-use lib.ListN.{length, take, drop, getD, length-drop, take-append-drop}
+use lib.ListN.{length, take, drop, getD, take-append-drop}
 use lib.Seq.{drop-at, drop-drop, length-take-le}
 use lib.Dec.{T, eqb→eq, le→leb}
-use Rattle.meaning.specs.Sizes.{SET-NUMBER-BYTES, CONTENT-BYTES, PREFIX-AT, PREFIX-DIGITS-AT, LENGTH-AT, FILTER-BYTES, SET-AT, RULE-BODY, CONTENT-AT, COUNT-AT, SET-WIDTH, RULE-WIDTH}
+use Rattle.meaning.specs.Sizes.{SET-NUMBER-BYTES, CONTENT-BYTES, PREFIX-AT, LENGTH-AT, FILTER-BYTES, SET-AT, RULE-BODY, CONTENT-AT, COUNT-AT, SET-WIDTH, RULE-WIDTH}
 use Rattle.meaning.specs.Basics.{all, isZero, word, part}
 use Rattle.meaning.specs.Filters.{Filter, filterOf, filterInRange}
 use Rattle.meaning.specs.Rules.{Rule}
@@ -19,7 +19,7 @@ use Rattle.meaning.proofs.Tests.{and-left, and-right, and-both, each-all, all-a
 use Rattle.buffer.specs.Zeros.{zeros}
 use Rattle.buffer.specs.Slots.{Wide}
 use Rattle.filter.specs.Slots.{FilterBytes, prefixFits, ruleOf}
-use Rattle.filter.proofs.FilterLaws.{range-bytes, prefix-is}
+use Rattle.filter.proofs.FilterLaws.{range-bytes, prefix-length}
 use Rattle.filter.proofs.RuleLaws.{filter-in}
 use Rattle.plan.specs.Layout.{wordBytes, ruleImage, slotsOf}
 use Rattle.plan.proofs.ImageLaws.{rule-back}
@@ -105,7 +105,6 @@ module _ (room n : ℕ) (sets s : List ℕ) (n-is : n ≡ word s SET-AT) where
   held-set p l b h e bytes p-is l-is b-is =
       let k : SET-WIDTH * n + COUNT-AT - (SET-WIDTH * n + CONTENT-AT) ≡ CONTENT-BYTES = omega arith in
       let content : List ℕ = take CONTENT-BYTES (drop (SET-WIDTH * n + CONTENT-AT) sets) in
-      let long : getD s PREFIX-AT 0 ≤ length (drop PREFIX-DIGITS-AT s) = rw (length-drop PREFIX-DIGITS-AT s) (omega (arith, bytes .whole, bytes .prefix)) in
-      let size : length (filterOf s .prefix) ≡ p = ap length (prefix-is s bytes) ∙ length-take-le (getD s PREFIX-AT 0) (drop PREFIX-DIGITS-AT s) long ∙ sym p-is in
+      let size : length (filterOf s .prefix) ≡ p = prefix-length s bytes ∙ sym p-is in
       let fits : fit (filterOf s) (actionsOf content) ≡ casFit p l (actionsOf content .cas) = ap₂ (λ (x y : ℕ). casFit x y (actionsOf content .cas)) size (sym l-is) in
       b-is ∙ rw k (sym (named (some content) (slot-held room n sets h e) ∙ fits))

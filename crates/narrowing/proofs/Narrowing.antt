@@ -8,8 +8,8 @@ use mathlib.Core.List.{List, [], _∷_}
 use mathlib.Core.Option.{Option, none, some}
 use native.Mathlib.Nat.{le-of-suc-le-suc}
 use native.Mathlib.Omega.{arith}
-use lib.ListN.{length, take, drop, getD, length-drop, List·getD-map}
-use lib.Seq.{getD-take, getD-drop, length-take-le}
+use lib.ListN.{length, take, drop, getD, List·getD-map}
+use lib.Seq.{getD-take, getD-drop}
 use lib.Dec.{T, ltb, lit<}
 use borrow.Author.Tests.{ltb-true, ltb-false}
 use Rattle.meaning.specs.Sizes.{CLASS-AT, PREFIX-AT, PREFIX-DIGITS-AT, LENGTH-AT, RULE-WIDTH}
@@ -21,7 +21,7 @@ use Rattle.meaning.proofs.RuleLists.{is-lt}
 use Rattle.buffer.specs.Slots.{slots}
 use Rattle.buffer.proofs.SlotLaws.{slot-at}
 use Rattle.filter.specs.Slots.{FilterBytes, RuleArea, ruleOf, rulesOf}
-use Rattle.filter.proofs.FilterLaws.{prefix-is}
+use Rattle.filter.proofs.FilterLaws.{prefix-is, prefix-length}
 use Rattle.filter.proofs.RuleLaws.{filter-in, length-rules, slot-bytes, Left, left-all, left-better, left-worse, left-none}
 use Rattle.narrowing.specs.Columns.{byteAt, Narrowed, lengthWeight}
 use Rattle.narrowing.proofs.Prefixes.{digits-rise, classes-rise, not-behind, one-more, other-class, other-digit, too-long, by-length}
@@ -54,10 +54,7 @@ module _ (n : ℕ) (m : List ℕ) (area : RuleArea n m) (k : ℕ) (inside : k < 
   few-at = rw (slot-byte m k PREFIX-AT (lit< tt)) at (bytes .prefix)
 
   prefix-at : length (filterAt m k .prefix) ≡ byteAt m PREFIX-AT k
-  prefix-at =
-      let s = take RULE-WIDTH (drop (RULE-WIDTH * k) m) in
-      let h : getD s PREFIX-AT 0 ≤ length (drop PREFIX-DIGITS-AT s) = simp length-drop (omega (arith, bytes .whole, bytes .prefix)) in
-      ap length (prefix-is s bytes) ∙ length-take-le (getD s PREFIX-AT 0) (drop PREFIX-DIGITS-AT s) h ∙ slot-byte m k PREFIX-AT (lit< tt)
+  prefix-at = prefix-length (take RULE-WIDTH (drop (RULE-WIDTH * k) m)) bytes ∙ slot-byte m k PREFIX-AT (lit< tt)
 
   digit-at : (j : ℕ) → j < length (filterAt m k .prefix) → getD (filterAt m k .prefix) j 0 ≡ byteAt m (PREFIX-DIGITS-AT + j) k
   digit-at j h =
