@@ -6,18 +6,6 @@ use borrow.Author.Needs.{needs}
 use Rattle.bench.proofs.npp_chosen_known.Statement.{statement}
 use Rattle.bench.proofs.npp_chosen_known.Tie as tie
 
-choose-requires : tie.Need-choose-requires
-choose-requires c κs = search needs
-
-enum-known-place : tie.Need-enum-known-place
-enum-known-place c = search needs
-
-cast-result : tie.Need-cast-result
-cast-result c = search needs
-
-enum-told : tie.Need-enum-told
-enum-told c = search needs
-
 returns : tie.Need-returns
 returns c = sym (ap placeNumber (sym (c .before .before .before .before .choose .ensures) ∙ ap placeChosen (c .before .before .place .given .1)))
 
@@ -26,4 +14,4 @@ returns-2 c = sym (ap placeNumber (sym (c .before .before .choose .ensures) ∙ 
 
 pub npp-chosen-known-spec : {M : Type 1} → statement M
 npp-chosen-known-spec =
-    tie.close (tie.spec choose-requires enum-known-place cast-result enum-told returns returns-2)
+    tie.close (tie.spec (λ c κs. search needs) (λ c. search needs) (λ c. search needs) (λ c. search needs) returns returns-2)

@@ -15,14 +15,8 @@ use Rattle.reads.proofs.referrers.Reads as referrers-reads
 counted-so : {c d : Count} {r : NppCounted} → c ≡ d → CountedAs c r → CountedAs d r
 counted-so e q = record { refusal = q .refusal ∙ ap (λ (x : Count). x .refusal) e; rules = q .rules ∙ ap (λ (x : Count). x .number) e }
 
-referrers-requires : tie.Need-referrers-requires
-referrers-requires c κs = search needs
-
-counted-requires : tie.Need-counted-requires
-counted-requires c κs = search needs
-
 returns : tie.Need-returns
 returns c = search (needs, counted-so)
 
 pub npp-referrers-spec : {M : Type 1} → statement M
-npp-referrers-spec = tie.close (tie.spec referrers-requires counted-requires returns)
+npp-referrers-spec = tie.close (tie.spec (λ c κs. search needs) (λ c κs. search needs) returns)

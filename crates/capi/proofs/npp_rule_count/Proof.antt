@@ -5,14 +5,8 @@ use Rattle.capi.specs.Given.{CountedAs}
 use Rattle.capi.proofs.npp_rule_count.Statement.{statement}
 use Rattle.capi.proofs.npp_rule_count.Tie as tie
 
-rule-count-requires : tie.Need-rule-count-requires
-rule-count-requires c κs = search needs
-
-counted-requires : tie.Need-counted-requires
-counted-requires c κs = search needs
-
 returns : tie.Need-returns
 returns c = subst (λ n. CountedAs n (c .counted .result)) (c .before .rule-count .ensures) (c .counted .ensures)
 
 pub npp-rule-count-spec : {M : Type 1} → statement M
-npp-rule-count-spec = tie.close (tie.spec rule-count-requires counted-requires returns)
+npp-rule-count-spec = tie.close (tie.spec (λ c κs. search needs) (λ c κs. search needs) returns)

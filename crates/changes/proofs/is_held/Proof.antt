@@ -8,16 +8,10 @@ use Rattle.plan.specs.Layout.{planOf}
 use Rattle.changes.proofs.is_held.Statement.{statement}
 use Rattle.changes.proofs.is_held.Tie as tie
 
-set-number-requires : tie.Need-set-number-requires
-set-number-requires c κs = search needs
-
-is-held-requires : tie.Need-is-held-requires
-is-held-requires c κs = search needs
-
 returns : tie.Need-returns
 returns c =
     let m = c .before .before .before .before .args .plan .now in
     c .is-held .ensures ∙ ap (λ (n : SetNumber). isSome (held (planOf m) (n .0))) (c .before .set-number .ensures)
 
 pub is-held-spec : {M : Type 1} → statement M
-is-held-spec = tie.close (tie.spec set-number-requires is-held-requires returns)
+is-held-spec = tie.close (tie.spec (λ c κs. search needs) (λ c κs. search needs) returns)

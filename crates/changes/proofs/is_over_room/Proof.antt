@@ -8,9 +8,6 @@ use Rattle.plan.proofs.ReadLaws.{numbers}
 use Rattle.changes.proofs.is_over_room.Statement.{statement}
 use Rattle.changes.proofs.is_over_room.Tie as tie
 
-set-number-requires : tie.Need-set-number-requires
-set-number-requires c κs = search needs
-
 is-over-room-requires : tie.Need-is-over-room-requires
 is-over-room-requires c κs =
     let start = c .before .before .before in
@@ -22,4 +19,4 @@ returns c =
     c .is-over-room .ensures ∙ ap (λ (n : SetNumber). overRoom (planOf m) (n .0)) (c .before .set-number .ensures)
 
 pub is-over-room-spec : {M : Type 1} → statement M
-is-over-room-spec = tie.close (tie.spec set-number-requires is-over-room-requires returns)
+is-over-room-spec = tie.close (tie.spec (λ c κs. search needs) is-over-room-requires returns)

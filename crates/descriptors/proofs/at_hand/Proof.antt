@@ -7,19 +7,17 @@ use Rattle.descriptors.proofs.at_hand.Tie as tie
 returns : tie.Need-returns
 returns c = let b = c .before .before in unread (b .args .source) (b .args .have) _ (b .args .got) (b .fits .got) (c .if1 .taken)
 
-count-requires : tie.Need-count-requires
-count-requires c κs = search needs
-
-add-now : tie.Need-add-now
-add-now c = search needs
-
-add-t9 : tie.Need-add-t9
-add-t9 c = search needs
-
 returns-2 : tie.Need-returns-2
 returns-2 c =
     let b = c .before .before .before .before in
     read-of (b .args .source) (b .args .have) _ (b .args .got) (b .fits .got) (c .before .count .result) (c .before .before .if1 .left) (c .before .count .ensures .1)
 
 pub at-hand-spec : {M : Type 1} → statement M
-at-hand-spec = tie.close (tie.spec returns count-requires add-now add-t9 returns-2)
+at-hand-spec =
+    tie.close
+    (tie.spec
+    returns
+    (λ c κs. search needs)
+    (λ c. search needs)
+    (λ c. search needs)
+    returns-2)

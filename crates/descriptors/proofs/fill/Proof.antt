@@ -10,33 +10,6 @@ use Rattle.descriptors.proofs.MoveLaws.{part-long}
 use Rattle.descriptors.proofs.fill.Statement.{statement}
 use Rattle.descriptors.proofs.fill.Tie as tie
 
-sub-read : tie.Need-sub-read
-sub-read c = search needs
-
-part-read-start : tie.Need-part-read-start
-part-read-start c = search needs
-
-part-read-end : tie.Need-part-read-end
-part-read-end c = search needs
-
-read-requires : tie.Need-read-requires
-read-requires c κs = search needs
-
-sub-at-hand : tie.Need-sub-at-hand
-sub-at-hand c = search needs
-
-part-at-hand-start : tie.Need-part-at-hand-start
-part-at-hand-start c = search needs
-
-part-at-hand-end : tie.Need-part-at-hand-end
-part-at-hand-end c = search needs
-
-at-hand-requires : tie.Need-at-hand-requires
-at-hand-requires c κs = search needs
-
-same-length : tie.Need-same-length
-same-length c = search needs
-
 returns : tie.Need-returns
 returns c =
     let b = c .before .before .before .before .before .before .before .before .before in
@@ -56,13 +29,13 @@ pub fill-spec : {M : Type 1} → statement M
 fill-spec =
     tie.close
     (tie.spec
-    sub-read
-    part-read-start
-    part-read-end
-    read-requires
-    sub-at-hand
-    part-at-hand-start
-    part-at-hand-end
-    at-hand-requires
-    same-length
+    (λ c. search needs)
+    (λ c. search needs)
+    (λ c. search needs)
+    (λ c κs. search needs)
+    (λ c. search needs)
+    (λ c. search needs)
+    (λ c. search needs)
+    (λ c κs. search needs)
+    (λ c. search needs)
     returns)

@@ -10,25 +10,10 @@ use Rattle.history.proofs.is_whole.Tie as tie
 returns : tie.Need-returns
 returns c = sym (none-past _ _ (c .if1 .taken))
 
-shared-slice-read-kind : tie.Need-shared-slice-read-kind
-shared-slice-read-kind c = search needs
-
-is-call-requires : tie.Need-is-call-requires
-is-call-requires c κs = search needs
-
 returns-2 : tie.Need-returns-2
 returns-2 c =
     let a = c .before .before .before .before .before .args in
     sym (whole-is (a .calls .now) (a .at) (omega arith) ∙ rw (sym (c .before .is-call .ensures) ∙ not-true _ (c .if2 .taken)))
-
-add-body : tie.Need-add-body
-add-body c = search needs
-
-body-length-requires : tie.Need-body-length-requires
-body-length-requires c κs = search needs
-
-sub-result : tie.Need-sub-result
-sub-result c = search needs
 
 returns-3 : tie.Need-returns-3
 returns-3 c =
@@ -42,10 +27,10 @@ is-whole-spec =
     tie.close
     (tie.spec
     returns
-    shared-slice-read-kind
-    is-call-requires
+    (λ c. search needs)
+    (λ c κs. search needs)
     returns-2
-    add-body
-    body-length-requires
-    sub-result
+    (λ c. search needs)
+    (λ c κs. search needs)
+    (λ c. search needs)
     returns-3)

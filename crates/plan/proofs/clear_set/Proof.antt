@@ -6,28 +6,10 @@ use borrow.Author.Needs.{needs}
 use Rattle.plan.proofs.clear_set.Statement.{statement}
 use Rattle.plan.proofs.clear_set.Tie as tie
 
-set-start-requires : tie.Need-set-start-requires
-set-start-requires c κs = search needs
-
-add-e : tie.Need-add-e
-add-e c = search needs
-
-sub-clear : tie.Need-sub-clear
-sub-clear c = search needs
-
-part-clear-start : tie.Need-part-clear-start
-part-clear-start c = search needs
-
 part-clear-end : tie.Need-part-clear-end
 part-clear-end c =
     let g = c .before .before in
     omega (arith, numbers (g .args .memory .now) (g .pre .0))
-
-clear-requires : tie.Need-clear-requires
-clear-requires c κs = search needs
-
-same-length : tie.Need-same-length
-same-length c = search needs
 
 returns : tie.Need-returns
 returns c =
@@ -40,11 +22,11 @@ pub clear-set-spec : {M : Type 1} → statement M
 clear-set-spec =
     tie.close
     (tie.spec
-    set-start-requires
-    add-e
-    sub-clear
-    part-clear-start
+    (λ c κs. search needs)
+    (λ c. search needs)
+    (λ c. search needs)
+    (λ c. search needs)
     part-clear-end
-    clear-requires
-    same-length
+    (λ c κs. search needs)
+    (λ c. search needs)
     returns)

@@ -5,21 +5,6 @@ use Rattle.plan.proofs.ReadLaws.{numbers, held-below, content-lent}
 use Rattle.plan.proofs.content.Statement.{statement}
 use Rattle.plan.proofs.content.Tie as tie
 
-set-start-requires : tie.Need-set-start-requires
-set-start-requires c κs = search needs
-
-add-a : tie.Need-add-a
-add-a c = search needs
-
-add-e : tie.Need-add-e
-add-e c = search needs
-
-sub-result : tie.Need-sub-result
-sub-result c = search needs
-
-part-result-start : tie.Need-part-result-start
-part-result-start c = search needs
-
 part-result-end : tie.Need-part-result-end
 part-result-end c =
     let g = c .before .before in
@@ -31,4 +16,13 @@ returns c =
     content-lent (g .args .memory .now) (g .args .set .0) _ (c .before .set-start .ensures) (g .pre .0) (g .pre .1)
 
 pub content-spec : {M : Type 1} → statement M
-content-spec = tie.close (tie.spec set-start-requires add-a add-e sub-result part-result-start part-result-end returns)
+content-spec =
+    tie.close
+    (tie.spec
+    (λ c κs. search needs)
+    (λ c. search needs)
+    (λ c. search needs)
+    (λ c. search needs)
+    (λ c. search needs)
+    part-result-end
+    returns)

@@ -11,9 +11,6 @@ use borrow.Author.Needs.{needs}
 use Rattle.plan.proofs.content_at.Statement.{statement}
 use Rattle.plan.proofs.content_at.Tie as tie
 
-set-named-requires : tie.Need-set-named-requires
-set-named-requires c κs = search needs
-
 content-requires : tie.Need-content-requires
 content-requires c κs =
     let b = c .before .before in
@@ -26,4 +23,4 @@ returns c =
     (subst (λ (s : SetNumber). Content (planOf (b .args .memory .now)) (s .0) (c .content .result .now)) (c .before .set-named .ensures) (c .content .ensures))
 
 pub content-at-spec : {M : Type 1} → statement M
-content-at-spec = tie.close (tie.spec set-named-requires content-requires returns)
+content-at-spec = tie.close (tie.spec (λ c κs. search needs) content-requires returns)

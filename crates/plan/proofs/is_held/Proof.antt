@@ -24,9 +24,6 @@ returns c =
     let n = g .args .set .0 in
     sym (ap isSome (held-over m n (leb-true (setRoom m) n (told (c .before .is-over-room .ensures) (c .if1 .taken)))))
 
-set-start-requires : tie.Need-set-start-requires
-set-start-requires c κs = search needs
-
 shared-slice-read-result : tie.Need-shared-slice-read-result
 unfolding planOf
 shared-slice-read-result c =
@@ -49,4 +46,4 @@ returns-2 c =
 pub is-held-spec : {M : Type 1} → statement M
 is-held-spec =
     tie.close
-    (tie.spec is-over-room-requires returns set-start-requires shared-slice-read-result returns-2)
+    (tie.spec is-over-room-requires returns (λ c κs. search needs) shared-slice-read-result returns-2)

@@ -6,15 +6,9 @@ use Rattle.plan.specs.Layout.{planOf}
 use Rattle.plan.proofs.is_over_room.Statement.{statement}
 use Rattle.plan.proofs.is_over_room.Tie as tie
 
-set-room-requires : tie.Need-set-room-requires
-set-room-requires c κs = search needs
-
-cast-result : tie.Need-cast-result
-cast-result c = search needs
-
 returns : tie.Need-returns
 unfolding planOf
 returns c = ap (λ n. leb n (c .before .before .before .args .set .0)) (c .before .set-room .ensures .is)
 
 pub is-over-room-spec : {M : Type 1} → statement M
-is-over-room-spec = tie.close (tie.spec set-room-requires cast-result returns)
+is-over-room-spec = tie.close (tie.spec (λ c κs. search needs) (λ c. search needs) returns)

@@ -11,9 +11,6 @@ use Rattle.plan.proofs.ReadLaws.{numbers}
 use Rattle.plan.proofs.referrers.Statement.{statement}
 use Rattle.plan.proofs.referrers.Tie as tie
 
-rules-requires : tie.Need-rules-requires
-rules-requires c κs = search needs
-
 rule-count-requires : tie.Need-rule-count-requires
 rule-count-requires c κs =
     let g = c .before .before in
@@ -32,4 +29,4 @@ returns c =
     ∙ ap (λ (rs : List Rule). count (names n) rs) (rules .ensures .rules)
 
 pub referrers-spec : {M : Type 1} → statement M
-referrers-spec = tie.close (tie.spec rules-requires rule-count-requires naming-requires returns)
+referrers-spec = tie.close (tie.spec (λ c κs. search needs) rule-count-requires naming-requires returns)

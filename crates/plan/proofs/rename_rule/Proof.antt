@@ -4,39 +4,6 @@ use borrow.Author.Needs.{needs}
 use Rattle.plan.proofs.rename_rule.Statement.{statement}
 use Rattle.plan.proofs.rename_rule.Tie as tie
 
-cast-k : tie.Need-cast-k
-cast-k c = search needs
-
-rules-start-requires : tie.Need-rules-start-requires
-rules-start-requires c κs = search needs
-
-mul-a : tie.Need-mul-a
-mul-a c = search needs
-
-add-a : tie.Need-add-a
-add-a c = search needs
-
-add-e : tie.Need-add-e
-add-e c = search needs
-
-sub-put-word : tie.Need-sub-put-word
-sub-put-word c = search needs
-
-part-put-word-start : tie.Need-part-put-word-start
-part-put-word-start c = search needs
-
-part-put-word-end : tie.Need-part-put-word-end
-part-put-word-end c = search needs
-
-cast-put-word : tie.Need-cast-put-word
-cast-put-word c = search needs
-
-put-word-requires : tie.Need-put-word-requires
-put-word-requires c κs = search needs
-
-same-length : tie.Need-same-length
-same-length c = search needs
-
 returns : tie.Need-returns
 returns c =
     let put = c .before .before in
@@ -48,15 +15,15 @@ pub rename-rule-spec : {M : Type 1} → statement M
 rename-rule-spec =
     tie.close
     (tie.spec
-    cast-k
-    rules-start-requires
-    mul-a
-    add-a
-    add-e
-    sub-put-word
-    part-put-word-start
-    part-put-word-end
-    cast-put-word
-    put-word-requires
-    same-length
+    (λ c. search needs)
+    (λ c κs. search needs)
+    (λ c. search needs)
+    (λ c. search needs)
+    (λ c. search needs)
+    (λ c. search needs)
+    (λ c. search needs)
+    (λ c. search needs)
+    (λ c. search needs)
+    (λ c κs. search needs)
+    (λ c. search needs)
     returns)

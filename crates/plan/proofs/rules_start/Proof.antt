@@ -8,16 +8,10 @@ use Rattle.plan.proofs.rules_start.Tie as tie
 set-room-requires : tie.Need-set-room-requires
 set-room-requires c κs = numbers (c .before .args .memory .now) (c .before .pre) .header
 
-mul-result : tie.Need-mul-result
-mul-result c = search needs
-
-add-result : tie.Need-add-result
-add-result c = search needs
-
 returns : tie.Need-returns
 returns c =
     let n = numbers (c .before .before .args .memory .now) (c .before .before .pre) in
     record { is = search needs; sets = n .sets-most; rules = n .rules-most; held = n .count-most; room = omega (arith, n .size) }
 
 pub rules-start-spec : {M : Type 1} → statement M
-rules-start-spec = tie.close (tie.spec set-room-requires mul-result add-result returns)
+rules-start-spec = tie.close (tie.spec set-room-requires (λ c. search needs) (λ c. search needs) returns)

@@ -12,9 +12,6 @@ use Rattle.plan.proofs.ReadLaws.{rule-there}
 use Rattle.plan.proofs.set_named.Statement.{statement}
 use Rattle.plan.proofs.set_named.Tie as tie
 
-rules-requires : tie.Need-rules-requires
-rules-requires c κs = search needs
-
 set-at-requires : tie.Need-set-at-requires
 set-at-requires c κs = omega (arith, c .rules .ensures .area .room)
 
@@ -27,4 +24,4 @@ returns c =
     ∙ ap (λ (r : Rule). setOf (r .set)) (sym (rule-there (ruleCount (g .args .memory .now)) k (rules .result .now) (g .pre .1)) ∙ ap (λ (rs : List Rule). getD rs k noRule) (rules .ensures .rules))
 
 pub set-named-spec : {M : Type 1} → statement M
-set-named-spec = tie.close (tie.spec rules-requires set-at-requires returns)
+set-named-spec = tie.close (tie.spec (λ c κs. search needs) set-at-requires returns)

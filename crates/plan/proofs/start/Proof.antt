@@ -8,52 +8,13 @@ use borrow.Author.Needs.{needs}
 use Rattle.plan.proofs.start.Statement.{statement}
 use Rattle.plan.proofs.start.Tie as tie
 
-word-requires : tie.Need-word-requires
-word-requires c κs = search needs
-
-mul-size : tie.Need-mul-size
-mul-size c = search needs
-
-add-size : tie.Need-add-size
-add-size c = search needs
-
-word-requires-2 : tie.Need-word-requires-2
-word-requires-2 c κs = search needs
-
-mul-size-2 : tie.Need-mul-size-2
-mul-size-2 c = search needs
-
-add-size-2 : tie.Need-add-size-2
-add-size-2 c = search needs
-
-sub-clear : tie.Need-sub-clear
-sub-clear c = search needs
-
-part-clear-start : tie.Need-part-clear-start
-part-clear-start c = search needs
-
 part-clear-end : tie.Need-part-clear-end
 unfolding roomsOf bytesNeeded
 part-clear-end c = omega (arith, c .before .before .before .before .before .pre)
 
-clear-requires : tie.Need-clear-requires
-clear-requires c κs = search needs
-
-sub-write-header : tie.Need-sub-write-header
-sub-write-header c = search needs
-
-part-write-header-start : tie.Need-part-write-header-start
-part-write-header-start c = search needs
-
 part-write-header-end : tie.Need-part-write-header-end
 unfolding roomsOf bytesNeeded
 part-write-header-end c = omega (arith, c .before .before .before .before .before .before .before .before .before .pre, c .before .before .clear .kept)
-
-write-header-requires : tie.Need-write-header-requires
-write-header-requires c κs = search needs
-
-same-length : tie.Need-same-length
-same-length c = search needs
 
 returns : tie.Need-returns
 unfolding roomsOf bytesNeeded
@@ -73,19 +34,19 @@ pub start-spec : {M : Type 1} → statement M
 start-spec =
     tie.close
     (tie.spec
-    word-requires
-    mul-size
-    add-size
-    word-requires-2
-    mul-size-2
-    add-size-2
-    sub-clear
-    part-clear-start
+    (λ c κs. search needs)
+    (λ c. search needs)
+    (λ c. search needs)
+    (λ c κs. search needs)
+    (λ c. search needs)
+    (λ c. search needs)
+    (λ c. search needs)
+    (λ c. search needs)
     part-clear-end
-    clear-requires
-    sub-write-header
-    part-write-header-start
+    (λ c κs. search needs)
+    (λ c. search needs)
+    (λ c. search needs)
     part-write-header-end
-    write-header-requires
-    same-length
+    (λ c κs. search needs)
+    (λ c. search needs)
     returns)

@@ -7,28 +7,10 @@ use borrow.Author.Needs.{needs}
 use Rattle.plan.proofs.store_set.Statement.{statement}
 use Rattle.plan.proofs.store_set.Tie as tie
 
-set-start-requires : tie.Need-set-start-requires
-set-start-requires c κs = search needs
-
-add-e : tie.Need-add-e
-add-e c = search needs
-
-sub-write-set : tie.Need-sub-write-set
-sub-write-set c = search needs
-
-part-write-set-start : tie.Need-part-write-set-start
-part-write-set-start c = search needs
-
 part-write-set-end : tie.Need-part-write-set-end
 part-write-set-end c =
     let g = c .before .before .before in
     omega (arith, numbers (g .args .memory .now) (g .pre .0))
-
-write-set-requires : tie.Need-write-set-requires
-write-set-requires c κs = search needs
-
-same-length : tie.Need-same-length
-same-length c = search needs
 
 returns : tie.Need-returns
 returns c =
@@ -41,11 +23,11 @@ pub store-set-spec : {M : Type 1} → statement M
 store-set-spec =
     tie.close
     (tie.spec
-    set-start-requires
-    add-e
-    sub-write-set
-    part-write-set-start
+    (λ c κs. search needs)
+    (λ c. search needs)
+    (λ c. search needs)
+    (λ c. search needs)
     part-write-set-end
-    write-set-requires
-    same-length
+    (λ c κs. search needs)
+    (λ c. search needs)
     returns)

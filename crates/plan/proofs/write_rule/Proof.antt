@@ -5,21 +5,6 @@ use Rattle.plan.proofs.EditLaws.{rule-written}
 use Rattle.plan.proofs.write_rule.Statement.{statement}
 use Rattle.plan.proofs.write_rule.Tie as tie
 
-clear-requires : tie.Need-clear-requires
-clear-requires c κs = search needs
-
-copy-requires : tie.Need-copy-requires
-copy-requires c κs = search needs
-
-cast-put-word : tie.Need-cast-put-word
-cast-put-word c = search needs
-
-put-word-requires : tie.Need-put-word-requires
-put-word-requires c κs = search needs
-
-same-length : tie.Need-same-length
-same-length c = search needs
-
 returns : tie.Need-returns
 returns c =
     let put = c .before .before in
@@ -31,4 +16,12 @@ returns c =
     (clear .clear .ensures) (copy .copy .ensures)
 
 pub write-rule-spec : {M : Type 1} → statement M
-write-rule-spec = tie.close (tie.spec clear-requires copy-requires cast-put-word put-word-requires same-length returns)
+write-rule-spec =
+    tie.close
+    (tie.spec
+    (λ c κs. search needs)
+    (λ c κs. search needs)
+    (λ c. search needs)
+    (λ c κs. search needs)
+    (λ c. search needs)
+    returns)

@@ -6,24 +6,6 @@ use Rattle.plan.proofs.EditLaws.{set-written}
 use Rattle.plan.proofs.write_set.Statement.{statement}
 use Rattle.plan.proofs.write_set.Tie as tie
 
-clear-requires : tie.Need-clear-requires
-clear-requires c κs = search needs
-
-sub-copy : tie.Need-sub-copy
-sub-copy c = search needs
-
-part-copy-start : tie.Need-part-copy-start
-part-copy-start c = search needs
-
-part-copy-end : tie.Need-part-copy-end
-part-copy-end c = search needs
-
-copy-requires : tie.Need-copy-requires
-copy-requires c κs = search needs
-
-slice-write-slot : tie.Need-slice-write-slot
-slice-write-slot c = search needs
-
 same-length : tie.Need-same-length
 same-length c = simp length-set (omega arith)
 
@@ -37,4 +19,4 @@ returns c =
 pub write-set-spec : {M : Type 1} → statement M
 write-set-spec =
     tie.close
-    (tie.spec clear-requires sub-copy part-copy-start part-copy-end copy-requires slice-write-slot same-length returns)
+    (tie.spec (λ c κs. search needs) (λ c. search needs) (λ c. search needs) (λ c. search needs) (λ c κs. search needs) (λ c. search needs) same-length returns)

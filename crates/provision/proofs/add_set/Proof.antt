@@ -9,12 +9,9 @@ carry-out-requires : tie.Need-carry-out-requires
 unfolding isCall
 carry-out-requires c κs = refl
 
-same-length : tie.Need-same-length
-same-length c = search needs
-
 returns : tie.Need-returns
 unfolding operationOf
 returns c = c .before .before .carry-out .ensures
 
 pub add-set-spec : {M : Type 1} → statement M
-add-set-spec = tie.close (tie.spec carry-out-requires same-length returns)
+add-set-spec = tie.close (tie.spec carry-out-requires (λ c. search needs) returns)

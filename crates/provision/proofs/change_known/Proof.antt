@@ -8,24 +8,12 @@ use Rattle.changes.proofs.PromiseLaws.{known-refused, known-made}
 use Rattle.provision.proofs.change_known.Statement.{statement}
 use Rattle.provision.proofs.change_known.Tie as tie
 
-refusal-known-requires : tie.Need-refusal-known-requires
-refusal-known-requires c κs = search needs
-
-enum-known-r : tie.Need-enum-known-r
-enum-known-r c = search needs
-
-enum-told : tie.Need-enum-told
-enum-told c = search needs
-
 make-requires : tie.Need-make-requires
 make-requires c κs =
     let arm = c .before in
     let refusal = arm .before .before in
     let start = refusal .before .before .before .before in
     (start .pre, answered (refusal .refusal-known .ensures) (arm .enum-told .given .1))
-
-same-length : tie.Need-same-length
-same-length c = search needs
 
 returns : tie.Need-returns
 returns c =
@@ -34,9 +22,6 @@ returns c =
     let k = start .args .kind in
     known-refused (operationOf k) (start .args .plan .now) (start .args .body .now) (start .pre .whole ∙ ap bodyLength (sym (kind-of k (start .pre .call)))) (start .pre .sound) _
     (answered (refusal .refusal-known .ensures) (c .before .r .given .1)) (refusal-number (c .before .r .given .0 .0))
-
-same-length-2 : tie.Need-same-length-2
-same-length-2 c = search needs
 
 returns-2 : tie.Need-returns-2
 returns-2 c =
@@ -49,4 +34,14 @@ returns-2 c =
     (answered (refusal .refusal-known .ensures) (arm .enum-told .given .1)) (edit .make .ensures)
 
 pub change-known-spec : {M : Type 1} → statement M
-change-known-spec = tie.close (tie.spec refusal-known-requires enum-known-r enum-told make-requires same-length returns same-length-2 returns-2)
+change-known-spec =
+    tie.close
+    (tie.spec
+    (λ c κs. search needs)
+    (λ c. search needs)
+    (λ c. search needs)
+    make-requires
+    (λ c. search needs)
+    returns
+    (λ c. search needs)
+    returns-2)

@@ -52,18 +52,12 @@ remove-given-requires c κs =
     let e = rw k at (start .pre .1) in
     removed-rule (start .args .plan .now) (start .args .body .now) (start .pre .0 .sound) (start .pre .0 .whole ∙ ap bodyLength (k)) e
 
-same-length : tie.Need-same-length
-same-length c = search needs
-
 returns : tie.Need-returns
 unfolding operationOf
 returns c =
     let start = c .before .before .before .before .before .before .before in
     let m = start .args .plan .now in
     rw (c .before .before .before .before .match .keys1) (slot-left m _ _ (c .before .before .store-given .ensures))
-
-same-length-2 : tie.Need-same-length-2
-same-length-2 c = search needs
 
 returns-2 : tie.Need-returns-2
 unfolding operationOf
@@ -72,18 +66,12 @@ returns-2 c =
     let m = start .args .plan .now in
     rw (c .before .before .before .before .match .keys2) (slot-left m _ _ (c .before .before .store-given2 .ensures))
 
-same-length-3 : tie.Need-same-length-3
-same-length-3 c = search needs
-
 returns-3 : tie.Need-returns-3
 unfolding operationOf
 returns-3 c =
     let start = c .before .before .before .before .before .before .before in
     let m = start .args .plan .now in
     rw (c .before .before .before .before .match .keys3) (slot-left m _ _ (c .before .before .clear-given .ensures))
-
-same-length-4 : tie.Need-same-length-4
-same-length-4 c = search needs
 
 returns-4 : tie.Need-returns-4
 unfolding operationOf
@@ -92,18 +80,12 @@ returns-4 c =
     let m = start .args .plan .now in
     rw (c .before .before .before .before .match .keys4) (rules-left m _ (c .before .before .insert-given .ensures))
 
-same-length-5 : tie.Need-same-length-5
-same-length-5 c = search needs
-
 returns-5 : tie.Need-returns-5
 unfolding operationOf
 returns-5 c =
     let start = c .before .before .before .before .before .before .before in
     let m = start .args .plan .now in
     rw (c .before .before .before .before .match .keys5) (rules-left m _ (c .before .before .rename-given .ensures))
-
-same-length-6 : tie.Need-same-length-6
-same-length-6 c = search needs
 
 returns-6 : tie.Need-returns-6
 unfolding operationOf
@@ -115,4 +97,24 @@ returns-6 c =
     rw (k) (rules-left m _ (c .before .before .remove-given .ensures))
 
 pub make-spec : {M : Type 1} → statement M
-make-spec = tie.close (tie.spec store-given-requires store-given-requires-2 clear-given-requires insert-given-requires rename-given-requires remove-given-requires same-length returns same-length-2 returns-2 same-length-3 returns-3 same-length-4 returns-4 same-length-5 returns-5 same-length-6 returns-6)
+make-spec =
+    tie.close
+    (tie.spec
+    store-given-requires
+    store-given-requires-2
+    clear-given-requires
+    insert-given-requires
+    rename-given-requires
+    remove-given-requires
+    (λ c. search needs)
+    returns
+    (λ c. search needs)
+    returns-2
+    (λ c. search needs)
+    returns-3
+    (λ c. search needs)
+    returns-4
+    (λ c. search needs)
+    returns-5
+    (λ c. search needs)
+    returns-6)

@@ -72,4 +72,18 @@ returns-6 c =
     rw k (c .remove-rule-refusal .ensures)
 
 pub refusal-known-spec : {M : Type 1} → statement M
-refusal-known-spec = tie.close (tie.spec add-set-refusal-requires replace-set-refusal-requires remove-set-refusal-requires add-rule-refusal-requires change-rule-refusal-requires remove-rule-refusal-requires returns returns-2 returns-3 returns-4 returns-5 returns-6)
+refusal-known-spec =
+    tie.close
+    (tie.spec
+    add-set-refusal-requires
+    replace-set-refusal-requires
+    remove-set-refusal-requires
+    add-rule-refusal-requires
+    change-rule-refusal-requires
+    remove-rule-refusal-requires
+    returns
+    returns-2
+    returns-3
+    returns-4
+    returns-5
+    returns-6)

@@ -6,9 +6,6 @@ use Rattle.rule_changes.proofs.Given.{in-range}
 use Rattle.rule_changes.proofs.add_rule_refusal.Statement.{statement}
 use Rattle.rule_changes.proofs.add_rule_refusal.Tie as tie
 
-out-of-range-requires : tie.Need-out-of-range-requires
-out-of-range-requires c κs = search needs
-
 returns : tie.Need-returns
 unfolding addRuleLines
 returns c = search checks
@@ -19,9 +16,6 @@ holds-filter-requires c κs = search in-range
 returns-2 : tie.Need-returns-2
 unfolding addRuleLines
 returns-2 c = search checks
-
-is-held-requires : tie.Need-is-held-requires
-is-held-requires c κs = search needs
 
 returns-3 : tie.Need-returns-3
 unfolding addRuleLines
@@ -34,9 +28,6 @@ returns-4 : tie.Need-returns-4
 unfolding addRuleLines
 returns-4 c = search checks
 
-is-full-requires : tie.Need-is-full-requires
-is-full-requires c κs = search needs
-
 returns-5 : tie.Need-returns-5
 unfolding addRuleLines
 returns-5 c = search checks
@@ -46,4 +37,17 @@ unfolding addRuleLines
 returns-6 c = search checks
 
 pub add-rule-refusal-spec : {M : Type 1} → statement M
-add-rule-refusal-spec = tie.close (tie.spec out-of-range-requires returns holds-filter-requires returns-2 is-held-requires returns-3 fits-held-requires returns-4 is-full-requires returns-5 returns-6)
+add-rule-refusal-spec =
+    tie.close
+    (tie.spec
+    (λ c κs. search needs)
+    returns
+    holds-filter-requires
+    returns-2
+    (λ c κs. search needs)
+    returns-3
+    fits-held-requires
+    returns-4
+    (λ c κs. search needs)
+    returns-5
+    returns-6)

@@ -6,9 +6,6 @@ use Rattle.rule_changes.proofs.Given.{in-range}
 use Rattle.rule_changes.proofs.change_rule_refusal.Statement.{statement}
 use Rattle.rule_changes.proofs.change_rule_refusal.Tie as tie
 
-out-of-range-requires : tie.Need-out-of-range-requires
-out-of-range-requires c κs = search needs
-
 returns : tie.Need-returns
 unfolding changeRuleLines
 returns c = search checks
@@ -32,4 +29,13 @@ unfolding changeRuleLines
 returns-4 c = search checks
 
 pub change-rule-refusal-spec : {M : Type 1} → statement M
-change-rule-refusal-spec = tie.close (tie.spec out-of-range-requires returns both-there-requires returns-2 fits-held-requires returns-3 returns-4)
+change-rule-refusal-spec =
+    tie.close
+    (tie.spec
+    (λ c κs. search needs)
+    returns
+    both-there-requires
+    returns-2
+    fits-held-requires
+    returns-3
+    returns-4)

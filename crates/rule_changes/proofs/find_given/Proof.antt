@@ -12,16 +12,10 @@ use Rattle.rule_changes.proofs.Given.{code-bytes}
 use Rattle.rule_changes.proofs.find_given.Statement.{statement}
 use Rattle.rule_changes.proofs.find_given.Tie as tie
 
-rules-requires : tie.Need-rules-requires
-rules-requires c κs = search needs
-
 rule-count-requires : tie.Need-rule-count-requires
 rule-count-requires c κs =
     let start = c .before .before .before in
     numbers (start .args .plan .now) (start .pre .sound) .header
-
-code-given-requires : tie.Need-code-given-requires
-code-given-requires c κs = search needs
 
 find-requires : tie.Need-find-requires
 find-requires c κs =
@@ -40,4 +34,11 @@ returns c =
     (rules-are (start .args .plan .now) _ _ (count .before .rules .ensures) (count .rule-count .ensures .is))
 
 pub find-given-spec : {M : Type 1} → statement M
-find-given-spec = tie.close (tie.spec rules-requires rule-count-requires code-given-requires find-requires returns)
+find-given-spec =
+    tie.close
+    (tie.spec
+    (λ c κs. search needs)
+    rule-count-requires
+    (λ c κs. search needs)
+    find-requires
+    returns)

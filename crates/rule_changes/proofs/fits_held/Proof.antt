@@ -15,12 +15,6 @@ use Rattle.rule_changes.proofs.Given.{code-bytes, none-fits}
 use Rattle.rule_changes.proofs.fits_held.Statement.{statement}
 use Rattle.rule_changes.proofs.fits_held.Tie as tie
 
-set-number-requires : tie.Need-set-number-requires
-set-number-requires c κs = search needs
-
-is-held-requires : tie.Need-is-held-requires
-is-held-requires c κs = search needs
-
 returns : tie.Need-returns
 returns c =
     let set = c .before .before in
@@ -29,9 +23,6 @@ returns c =
     let f : Filter = filterOf (codeGiven (start .args .body .now)) in
     none-fits f (held (planOf m) (set .set-number .result .0)) (failed (c .before .is-held .ensures) (c .if1 .taken))
     ∙ ap (λ (n : SetNumber). fitsHeld f (held (planOf m) (n .0))) (set .set-number .ensures)
-
-code-given-requires : tie.Need-code-given-requires
-code-given-requires c κs = search needs
 
 content-requires : tie.Need-content-requires
 content-requires c κs =
@@ -57,4 +48,13 @@ returns-2 c =
     ∙ (sym (ap (fitsHeld f) (content .content .ensures .is)) ∙ ap (λ (n : SetNumber). fitsHeld f (held (planOf m) (n .0))) (set .set-number .ensures)))
 
 pub fits-held-spec : {M : Type 1} → statement M
-fits-held-spec = tie.close (tie.spec set-number-requires is-held-requires returns code-given-requires content-requires fits-requires returns-2)
+fits-held-spec =
+    tie.close
+    (tie.spec
+    (λ c κs. search needs)
+    (λ c κs. search needs)
+    returns
+    (λ c κs. search needs)
+    content-requires
+    fits-requires
+    returns-2)

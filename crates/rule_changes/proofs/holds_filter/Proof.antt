@@ -4,15 +4,6 @@ use Rattle.rule_changes.proofs.Given.{held-found, absent-found}
 use Rattle.rule_changes.proofs.holds_filter.Statement.{statement}
 use Rattle.rule_changes.proofs.holds_filter.Tie as tie
 
-find-given-requires : tie.Need-find-given-requires
-find-given-requires c κs = search needs
-
-enum-told : tie.Need-enum-told
-enum-told c = search needs
-
-enum-told-2 : tie.Need-enum-told-2
-enum-told-2 c = search needs
-
 returns : tie.Need-returns
 returns c =
     let found = c .before .before in
@@ -26,4 +17,11 @@ returns-2 c =
     absent-found (start .args .plan .now) (start .args .body .now) (start .pre) _ (found .find-given .ensures) _ (c .enum-told2 .given .1)
 
 pub holds-filter-spec : {M : Type 1} → statement M
-holds-filter-spec = tie.close (tie.spec find-given-requires enum-told enum-told-2 returns returns-2)
+holds-filter-spec =
+    tie.close
+    (tie.spec
+    (λ c κs. search needs)
+    (λ c. search needs)
+    (λ c. search needs)
+    returns
+    returns-2)

@@ -4,15 +4,6 @@ use Rattle.rule_changes.proofs.RuleChanges.{room-left, absent-within, i
 use Rattle.rule_changes.proofs.insert_given.Statement.{statement}
 use Rattle.rule_changes.proofs.insert_given.Tie as tie
 
-place-of-requires : tie.Need-place-of-requires
-place-of-requires c κs = search needs
-
-code-given-requires : tie.Need-code-given-requires
-code-given-requires c κs = search needs
-
-set-number-requires : tie.Need-set-number-requires
-set-number-requires c κs = search needs
-
 insert-rule-requires : tie.Need-insert-rule-requires
 insert-rule-requires c κs =
     let place = c .before .before .before in
@@ -24,9 +15,6 @@ insert-rule-requires c κs =
       c .before .code-given .ensures .size,
     )
 
-same-length : tie.Need-same-length
-same-length c = search needs
-
 returns : tie.Need-returns
 returns c =
     let edit = c .before .before in
@@ -37,4 +25,12 @@ returns c =
     (edit .before .set-number .ensures) (code .code-given .ensures .is) (edit .insert-rule .ensures)
 
 pub insert-given-spec : {M : Type 1} → statement M
-insert-given-spec = tie.close (tie.spec place-of-requires code-given-requires set-number-requires insert-rule-requires same-length returns)
+insert-given-spec =
+    tie.close
+    (tie.spec
+    (λ c κs. search needs)
+    (λ c κs. search needs)
+    (λ c κs. search needs)
+    insert-rule-requires
+    (λ c. search needs)
+    returns)

@@ -4,17 +4,11 @@ use Rattle.rule_changes.proofs.RuleChanges.{held-below, removed}
 use Rattle.rule_changes.proofs.remove_given.Statement.{statement}
 use Rattle.rule_changes.proofs.remove_given.Tie as tie
 
-place-of-requires : tie.Need-place-of-requires
-place-of-requires c κs = search needs
-
 remove-rule-requires : tie.Need-remove-rule-requires
 remove-rule-requires c κs =
     let place = c .before in
     let start = place .before .before .before .before in
     (start .pre .0 .sound, held-below (start .args .plan .now) (start .args .body .now) (start .pre .0) _ (place .place-of .ensures) (start .pre .1))
-
-same-length : tie.Need-same-length
-same-length c = search needs
 
 returns : tie.Need-returns
 returns c =
@@ -24,4 +18,10 @@ returns c =
     removed (start .args .plan .now) (start .args .body .now) (start .pre .0) _ (place .place-of .ensures) (start .pre .1) (edit .remove-rule .ensures)
 
 pub remove-given-spec : {M : Type 1} → statement M
-remove-given-spec = tie.close (tie.spec place-of-requires remove-rule-requires same-length returns)
+remove-given-spec =
+    tie.close
+    (tie.spec
+    (λ c κs. search needs)
+    remove-rule-requires
+    (λ c. search needs)
+    returns)

@@ -6,9 +6,6 @@ use native.Mathlib.Omega.{arith}
 use Rattle.rule_changes.proofs.remove_rule_refusal.Statement.{statement}
 use Rattle.rule_changes.proofs.remove_rule_refusal.Tie as tie
 
-filter-in-range-requires : tie.Need-filter-in-range-requires
-filter-in-range-requires c κs = search needs
-
 returns : tie.Need-returns
 unfolding removeRuleLines
 returns c = search checks
@@ -27,4 +24,11 @@ unfolding removeRuleLines
 returns-3 c = search checks
 
 pub remove-rule-refusal-spec : {M : Type 1} → statement M
-remove-rule-refusal-spec = tie.close (tie.spec filter-in-range-requires returns holds-filter-requires returns-2 returns-3)
+remove-rule-refusal-spec =
+    tie.close
+    (tie.spec
+    (λ c κs. search needs)
+    returns
+    holds-filter-requires
+    returns-2
+    returns-3)

@@ -4,20 +4,11 @@ use Rattle.rule_changes.proofs.RuleChanges.{held-below, renamed}
 use Rattle.rule_changes.proofs.rename_given.Statement.{statement}
 use Rattle.rule_changes.proofs.rename_given.Tie as tie
 
-place-of-requires : tie.Need-place-of-requires
-place-of-requires c κs = search needs
-
-set-number-requires : tie.Need-set-number-requires
-set-number-requires c κs = search needs
-
 rename-rule-requires : tie.Need-rename-rule-requires
 rename-rule-requires c κs =
     let place = c .before .before in
     let start = place .before .before .before .before in
     (start .pre .0 .sound, held-below (start .args .plan .now) (start .args .body .now) (start .pre .0) _ (place .place-of .ensures) (start .pre .2))
-
-same-length : tie.Need-same-length
-same-length c = search needs
 
 returns : tie.Need-returns
 returns c =
@@ -28,4 +19,11 @@ returns c =
     (edit .before .set-number .ensures) (edit .rename-rule .ensures)
 
 pub rename-given-spec : {M : Type 1} → statement M
-rename-given-spec = tie.close (tie.spec place-of-requires set-number-requires rename-rule-requires same-length returns)
+rename-given-spec =
+    tie.close
+    (tie.spec
+    (λ c κs. search needs)
+    (λ c κs. search needs)
+    rename-rule-requires
+    (λ c. search needs)
+    returns)

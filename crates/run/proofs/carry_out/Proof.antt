@@ -13,9 +13,6 @@ open-requires c κs =
     let start = c .before .before .before .before in
     (start .pre .2 ∙ ap bodyLength (c .before .if1 .taken), start .pre .0 .room)
 
-same-length : tie.Need-same-length
-same-length c = search needs
-
 returns : tie.Need-returns
 returns c = rw (c .before .before .before .before .if1 .taken) (c .before .before .«open» .ensures)
 
@@ -30,9 +27,6 @@ change-known-requires c κs =
     let start = c .before .before .before .before .before in
     record { sound = start .pre .0 .state ∙ not-false _ (c .before .if2 .left); call = start .pre .1; other = c .before .before .if1 .left; whole = start .pre .2 }
 
-same-length-2 : tie.Need-same-length-2
-same-length-2 c = search needs
-
 returns-3 : tie.Need-returns-3
 returns-3 c =
     let opening = c .before .before .before .before .before in
@@ -42,4 +36,4 @@ returns-3 c =
 pub carry-out-spec : {M : Type 1} → statement M
 carry-out-spec =
     tie.close
-    (tie.spec open-requires same-length returns returns-2 change-known-requires same-length-2 returns-3)
+    (tie.spec open-requires (λ c. search needs) returns returns-2 change-known-requires (λ c. search needs) returns-3)

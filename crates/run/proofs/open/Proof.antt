@@ -8,15 +8,6 @@ use Rattle.run.proofs.RunLaws.{over-sets, over-rules, within-both, open
 use Rattle.run.proofs.open.Statement.{statement}
 use Rattle.run.proofs.open.Tie as tie
 
-word-requires : tie.Need-word-requires
-word-requires c κs = search needs
-
-word-requires-2 : tie.Need-word-requires-2
-word-requires-2 c κs = search needs
-
-opening-refusal-requires : tie.Need-opening-refusal-requires
-opening-refusal-requires c κs = search needs
-
 returns : tie.Need-returns
 unfolding operationOf
 returns c =
@@ -26,12 +17,6 @@ returns c =
     (⊎-elim (λ w. over-sets b _ (c .before .before .word .ensures .is) (omega arith))
     (λ w. over-rules b _ (w .1 .ensures .is) (omega (arith, ltb-true)))
     (c .before .if1 .came))
-
-open-known-requires : tie.Need-open-known-requires
-open-known-requires c κs = search needs
-
-same-length : tie.Need-same-length
-same-length c = search needs
 
 returns-2 : tie.Need-returns-2
 unfolding operationOf
@@ -48,10 +33,10 @@ pub open-spec : {M : Type 1} → statement M
 open-spec =
     tie.close
     (tie.spec
-    word-requires
-    word-requires-2
-    opening-refusal-requires
+    (λ c κs. search needs)
+    (λ c κs. search needs)
+    (λ c κs. search needs)
     returns
-    open-known-requires
-    same-length
+    (λ c κs. search needs)
+    (λ c. search needs)
     returns-2)

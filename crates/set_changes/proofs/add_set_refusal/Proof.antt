@@ -5,22 +5,13 @@ use Rattle.meaning.proofs.Telling.{checks}
 use Rattle.set_changes.proofs.add_set_refusal.Statement.{statement}
 use Rattle.set_changes.proofs.add_set_refusal.Tie as tie
 
-out-of-range-requires : tie.Need-out-of-range-requires
-out-of-range-requires c κs = search needs
-
 returns : tie.Need-returns
 unfolding addSetLines
 returns c = search checks
 
-keeps-groups-requires : tie.Need-keeps-groups-requires
-keeps-groups-requires c κs = search needs
-
 returns-2 : tie.Need-returns-2
 unfolding addSetLines
 returns-2 c = search checks
-
-is-held-requires : tie.Need-is-held-requires
-is-held-requires c κs = search needs
 
 returns-3 : tie.Need-returns-3
 unfolding addSetLines
@@ -31,4 +22,13 @@ unfolding addSetLines
 returns-4 c = search checks
 
 pub add-set-refusal-spec : {M : Type 1} → statement M
-add-set-refusal-spec = tie.close (tie.spec out-of-range-requires returns keeps-groups-requires returns-2 is-held-requires returns-3 returns-4)
+add-set-refusal-spec =
+    tie.close
+    (tie.spec
+    (λ c κs. search needs)
+    returns
+    (λ c κs. search needs)
+    returns-2
+    (λ c κs. search needs)
+    returns-3
+    returns-4)

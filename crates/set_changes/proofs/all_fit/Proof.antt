@@ -24,27 +24,6 @@ loop-holds c =
     let g = c .before .before in
     (zero-le, g .pre .1 .few, g .pre .1 .room, fitting-none (g .args .set .0) (g .args .content .now) (g .args .rules .now) (g .args .count))
 
-cast-t11 : tie.Need-cast-t11 Inv-loop μ-loop
-cast-t11 c = search needs
-
-set-at-requires : tie.Need-set-at-requires Inv-loop μ-loop
-set-at-requires c κs = search needs
-
-mul-a : tie.Need-mul-a Inv-loop μ-loop
-mul-a c = search needs
-
-add-e : tie.Need-add-e Inv-loop μ-loop
-add-e c = search needs
-
-sub-fits : tie.Need-sub-fits Inv-loop μ-loop
-sub-fits c = search needs
-
-part-fits-start : tie.Need-part-fits-start Inv-loop μ-loop
-part-fits-start c = search needs
-
-part-fits-end : tie.Need-part-fits-end Inv-loop μ-loop
-part-fits-end c = search needs
-
 fits-requires : tie.Need-fits-requires Inv-loop μ-loop
 fits-requires c κs =
     let g = c .before .before .before .before .before .before .before .before in
@@ -57,12 +36,6 @@ returns c =
     let e = ap (λ (s : SetNumber). s .0) (c .before .before .before .before .before .set-at .ensures) in
     sym (fitting-misfit (a .set .0) (a .content .now) (a .rules .now) (a .count) (l .i) (l .inv .3) _ (c .before .before .before .before .before .before .loop-test .taken) e
     (c .before .before .before .if1 .taken) _ (c .before .fits2 .ensures) (not-true _ (c .if2 .taken)))
-
-add-i : tie.Need-add-i Inv-loop μ-loop
-add-i c = search needs
-
-loop-less : tie.Need-loop-less Inv-loop μ-loop
-loop-less c = search needs
 
 loop-again : tie.Need-loop-again Inv-loop μ-loop
 loop-again c =
@@ -88,16 +61,16 @@ all-fit-spec =
     Inv-loop
     μ-loop
     loop-holds
-    cast-t11
-    set-at-requires
-    mul-a
-    add-e
-    sub-fits
-    part-fits-start
-    part-fits-end
+    (λ c. search needs)
+    (λ c κs. search needs)
+    (λ c. search needs)
+    (λ c. search needs)
+    (λ c. search needs)
+    (λ c. search needs)
+    (λ c. search needs)
     fits-requires
     returns
-    add-i
-    loop-less
+    (λ c. search needs)
+    (λ c. search needs)
     loop-again
     returns-2)

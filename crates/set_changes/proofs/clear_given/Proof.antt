@@ -5,16 +5,10 @@ use Rattle.set_changes.proofs.LineLaws.{below-room}
 use Rattle.set_changes.proofs.clear_given.Statement.{statement}
 use Rattle.set_changes.proofs.clear_given.Tie as tie
 
-set-number-requires : tie.Need-set-number-requires
-set-number-requires c κs = search needs
-
 clear-set-requires : tie.Need-clear-set-requires
 clear-set-requires c κs =
     let start = c .before .before .before .before in
     (start .pre .0, below-room (start .args .plan .now) (start .args .body .now) (c .set-number .result) (c .set-number .ensures) (start .pre .2))
-
-same-length : tie.Need-same-length
-same-length c = search needs
 
 returns : tie.Need-returns
 returns c =
@@ -23,4 +17,4 @@ returns c =
     cleared (start .args .plan .now) (start .args .body .now) (edit .before .set-number .ensures) (edit .clear-set .ensures)
 
 pub clear-given-spec : {M : Type 1} → statement M
-clear-given-spec = tie.close (tie.spec set-number-requires clear-set-requires same-length returns)
+clear-given-spec = tie.close (tie.spec (λ c κs. search needs) clear-set-requires (λ c. search needs) returns)

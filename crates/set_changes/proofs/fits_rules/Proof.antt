@@ -6,19 +6,10 @@ use Rattle.set_changes.proofs.FittingLaws.{fitting-plan}
 use Rattle.set_changes.proofs.fits_rules.Statement.{statement}
 use Rattle.set_changes.proofs.fits_rules.Tie as tie
 
-rules-requires : tie.Need-rules-requires
-rules-requires c κs = search needs
-
 rule-count-requires : tie.Need-rule-count-requires
 rule-count-requires c κs =
     let start = c .before .before .before in
     numbers (start .args .plan .now) (start .pre .0) .header
-
-set-number-requires : tie.Need-set-number-requires
-set-number-requires c κs = search needs
-
-content-given-requires : tie.Need-content-given-requires
-content-given-requires c κs = search needs
 
 all-fit-requires : tie.Need-all-fit-requires
 all-fit-requires c κs =
@@ -35,4 +26,12 @@ returns c =
     (rules-are (start .args .plan .now) _ _ (count .before .rules .ensures) (count .rule-count .ensures .is)) (c .all-fit .ensures)
 
 pub fits-rules-spec : {M : Type 1} → statement M
-fits-rules-spec = tie.close (tie.spec rules-requires rule-count-requires set-number-requires content-given-requires all-fit-requires returns)
+fits-rules-spec =
+    tie.close
+    (tie.spec
+    (λ c κs. search needs)
+    rule-count-requires
+    (λ c κs. search needs)
+    (λ c κs. search needs)
+    all-fit-requires
+    returns)

@@ -8,12 +8,6 @@ use Rattle.set_changes.proofs.LineLaws.{in-use}
 use Rattle.set_changes.proofs.is_named.Statement.{statement}
 use Rattle.set_changes.proofs.is_named.Tie as tie
 
-set-number-requires : tie.Need-set-number-requires
-set-number-requires c κs = search needs
-
-referrers-requires : tie.Need-referrers-requires
-referrers-requires c κs = search needs
-
 returns : tie.Need-returns
 returns c =
     let start = c .before .before .before .before in
@@ -21,4 +15,4 @@ returns c =
     in-use p _ _ (c .referrers .ensures ∙ ap (λ (n : SetNumber). referrers p (n .0)) (c .before .set-number .ensures))
 
 pub is-named-spec : {M : Type 1} → statement M
-is-named-spec = tie.close (tie.spec set-number-requires referrers-requires returns)
+is-named-spec = tie.close (tie.spec (λ c κs. search needs) (λ c κs. search needs) returns)

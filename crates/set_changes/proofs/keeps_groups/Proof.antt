@@ -8,14 +8,8 @@ use Rattle.meaning.specs.Groups.{groupsHold}
 use Rattle.set_changes.proofs.keeps_groups.Statement.{statement}
 use Rattle.set_changes.proofs.keeps_groups.Tie as tie
 
-content-given-requires : tie.Need-content-given-requires
-content-given-requires c κs = search needs
-
-groups-hold-requires : tie.Need-groups-hold-requires
-groups-hold-requires c κs = search needs
-
 returns : tie.Need-returns
 returns c = c .groups-hold .ensures ∙ ap (λ (x : List ℕ). groupsHold (actionsOf x)) (c .before .content-given .ensures .is)
 
 pub keeps-groups-spec : {M : Type 1} → statement M
-keeps-groups-spec = tie.close (tie.spec content-given-requires groups-hold-requires returns)
+keeps-groups-spec = tie.close (tie.spec (λ c κs. search needs) (λ c κs. search needs) returns)

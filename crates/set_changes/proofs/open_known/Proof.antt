@@ -11,33 +11,6 @@ use borrow.Author.Needs.{needs}
 use Rattle.set_changes.proofs.open_known.Statement.{statement}
 use Rattle.set_changes.proofs.open_known.Tie as tie
 
-opening-refusal-requires : tie.Need-opening-refusal-requires
-opening-refusal-requires c κs = search needs
-
-enum-known-r : tie.Need-enum-known-r
-enum-known-r c = search needs
-
-enum-told : tie.Need-enum-told
-enum-told c = search needs
-
-sub-start : tie.Need-sub-start
-sub-start c = search needs
-
-part-start-start : tie.Need-part-start-start
-part-start-start c = search needs
-
-part-start-end : tie.Need-part-start-end
-part-start-end c = search needs
-
-sub-start-2 : tie.Need-sub-start-2
-sub-start-2 c = search needs
-
-part-start-start-2 : tie.Need-part-start-start-2
-part-start-start-2 c = search needs
-
-part-start-end-2 : tie.Need-part-start-end-2
-part-start-end-2 c = search needs
-
 start-requires : tie.Need-start-requires
 start-requires c κs =
     let arm = c .before .before .before in
@@ -53,9 +26,6 @@ returns c =
     (opening-number (start .args .plan .now) (start .args .body .now) (start .pre) ∙ answered (refusal .opening-refusal .ensures) (c .before .r .given .1))
     (refusal-number (c .before .r .given .0 .0))
 
-same-length : tie.Need-same-length
-same-length c = search needs
-
 returns-2 : tie.Need-returns-2
 returns-2 c =
     let edit = c .before .before in
@@ -68,16 +38,16 @@ pub open-known-spec : {M : Type 1} → statement M
 open-known-spec =
     tie.close
     (tie.spec
-    opening-refusal-requires
-    enum-known-r
-    enum-told
-    sub-start
-    part-start-start
-    part-start-end
-    sub-start-2
-    part-start-start-2
-    part-start-end-2
+    (λ c κs. search needs)
+    (λ c. search needs)
+    (λ c. search needs)
+    (λ c. search needs)
+    (λ c. search needs)
+    (λ c. search needs)
+    (λ c. search needs)
+    (λ c. search needs)
+    (λ c. search needs)
     start-requires
     returns
-    same-length
+    (λ c. search needs)
     returns-2)

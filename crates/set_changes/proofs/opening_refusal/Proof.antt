@@ -5,15 +5,9 @@ use Rattle.meaning.proofs.Telling.{checks}
 use Rattle.set_changes.proofs.opening_refusal.Statement.{statement}
 use Rattle.set_changes.proofs.opening_refusal.Tie as tie
 
-opening-in-range-requires : tie.Need-opening-in-range-requires
-opening-in-range-requires c κs = search needs
-
 returns : tie.Need-returns
 unfolding openingLines
 returns c = search checks
-
-lacks-room-requires : tie.Need-lacks-room-requires
-lacks-room-requires c κs = search needs
 
 returns-2 : tie.Need-returns-2
 unfolding openingLines
@@ -24,4 +18,11 @@ unfolding openingLines
 returns-3 c = search checks
 
 pub opening-refusal-spec : {M : Type 1} → statement M
-opening-refusal-spec = tie.close (tie.spec opening-in-range-requires returns lacks-room-requires returns-2 returns-3)
+opening-refusal-spec =
+    tie.close
+    (tie.spec
+    (λ c κs. search needs)
+    returns
+    (λ c κs. search needs)
+    returns-2
+    returns-3)

@@ -7,17 +7,8 @@ use Rattle.meaning.proofs.Telling.{told}
 use Rattle.set_changes.proofs.out_of_range.Statement.{statement}
 use Rattle.set_changes.proofs.out_of_range.Tie as tie
 
-is-over-room-requires : tie.Need-is-over-room-requires
-is-over-room-requires c κs = search needs
-
 returns : tie.Need-returns
 returns c = rw (told (c .before .is-over-room .ensures) (c .if1 .taken))
-
-content-given-requires : tie.Need-content-given-requires
-content-given-requires c κs = search needs
-
-content-in-range-requires : tie.Need-content-in-range-requires
-content-in-range-requires c κs = search needs
 
 returns-2 : tie.Need-returns-2
 returns-2 c =
@@ -25,4 +16,11 @@ returns-2 c =
     rw (told (over .before .is-over-room .ensures) (over .if1 .left)) (ap not (c .content-in-range .ensures ∙ ap contentInRange (c .before .content-given .ensures .is)))
 
 pub out-of-range-spec : {M : Type 1} → statement M
-out-of-range-spec = tie.close (tie.spec is-over-room-requires returns content-given-requires content-in-range-requires returns-2)
+out-of-range-spec =
+    tie.close
+    (tie.spec
+    (λ c κs. search needs)
+    returns
+    (λ c κs. search needs)
+    (λ c κs. search needs)
+    returns-2)

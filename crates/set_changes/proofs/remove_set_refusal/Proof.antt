@@ -5,22 +5,13 @@ use Rattle.meaning.proofs.Telling.{checks}
 use Rattle.set_changes.proofs.remove_set_refusal.Statement.{statement}
 use Rattle.set_changes.proofs.remove_set_refusal.Tie as tie
 
-is-over-room-requires : tie.Need-is-over-room-requires
-is-over-room-requires c κs = search needs
-
 returns : tie.Need-returns
 unfolding removeSetLines
 returns c = search checks
 
-is-held-requires : tie.Need-is-held-requires
-is-held-requires c κs = search needs
-
 returns-2 : tie.Need-returns-2
 unfolding removeSetLines
 returns-2 c = search checks
-
-is-named-requires : tie.Need-is-named-requires
-is-named-requires c κs = search needs
 
 returns-3 : tie.Need-returns-3
 unfolding removeSetLines
@@ -31,4 +22,13 @@ unfolding removeSetLines
 returns-4 c = search checks
 
 pub remove-set-refusal-spec : {M : Type 1} → statement M
-remove-set-refusal-spec = tie.close (tie.spec is-over-room-requires returns is-held-requires returns-2 is-named-requires returns-3 returns-4)
+remove-set-refusal-spec =
+    tie.close
+    (tie.spec
+    (λ c κs. search needs)
+    returns
+    (λ c κs. search needs)
+    returns-2
+    (λ c κs. search needs)
+    returns-3
+    returns-4)

@@ -5,29 +5,17 @@ use Rattle.meaning.proofs.Telling.{checks}
 use Rattle.set_changes.proofs.replace_set_refusal.Statement.{statement}
 use Rattle.set_changes.proofs.replace_set_refusal.Tie as tie
 
-out-of-range-requires : tie.Need-out-of-range-requires
-out-of-range-requires c κs = search needs
-
 returns : tie.Need-returns
 unfolding replaceSetLines
 returns c = search checks
-
-keeps-groups-requires : tie.Need-keeps-groups-requires
-keeps-groups-requires c κs = search needs
 
 returns-2 : tie.Need-returns-2
 unfolding replaceSetLines
 returns-2 c = search checks
 
-is-held-requires : tie.Need-is-held-requires
-is-held-requires c κs = search needs
-
 returns-3 : tie.Need-returns-3
 unfolding replaceSetLines
 returns-3 c = search checks
-
-fits-rules-requires : tie.Need-fits-rules-requires
-fits-rules-requires c κs = search needs
 
 returns-4 : tie.Need-returns-4
 unfolding replaceSetLines
@@ -38,4 +26,15 @@ unfolding replaceSetLines
 returns-5 c = search checks
 
 pub replace-set-refusal-spec : {M : Type 1} → statement M
-replace-set-refusal-spec = tie.close (tie.spec out-of-range-requires returns keeps-groups-requires returns-2 is-held-requires returns-3 fits-rules-requires returns-4 returns-5)
+replace-set-refusal-spec =
+    tie.close
+    (tie.spec
+    (λ c κs. search needs)
+    returns
+    (λ c κs. search needs)
+    returns-2
+    (λ c κs. search needs)
+    returns-3
+    (λ c κs. search needs)
+    returns-4
+    returns-5)

@@ -5,20 +5,11 @@ use Rattle.set_changes.proofs.LineLaws.{below-room}
 use Rattle.set_changes.proofs.store_given.Statement.{statement}
 use Rattle.set_changes.proofs.store_given.Tie as tie
 
-set-number-requires : tie.Need-set-number-requires
-set-number-requires c κs = search needs
-
-content-given-requires : tie.Need-content-given-requires
-content-given-requires c κs = search needs
-
 store-set-requires : tie.Need-store-set-requires
 store-set-requires c κs =
     let set = c .before .set-number in
     let start = c .before .before .before .before .before in
     (start .pre .0, below-room (start .args .plan .now) (start .args .body .now) (set .result) (set .ensures) (start .pre .2), c .content-given .ensures .size)
-
-same-length : tie.Need-same-length
-same-length c = search needs
 
 returns : tie.Need-returns
 returns c =
@@ -28,4 +19,11 @@ returns c =
     stored (start .args .plan .now) (start .args .body .now) (content .before .set-number .ensures) (content .content-given .ensures .is) (edit .store-set .ensures)
 
 pub store-given-spec : {M : Type 1} → statement M
-store-given-spec = tie.close (tie.spec set-number-requires content-given-requires store-set-requires same-length returns)
+store-given-spec =
+    tie.close
+    (tie.spec
+    (λ c κs. search needs)
+    (λ c κs. search needs)
+    store-set-requires
+    (λ c. search needs)
+    returns)

@@ -39,4 +39,14 @@ returns-8 c =
     simp (lt-leb _ _ high, ne-eqb _ _ (c .match .rest .1))
 
 pub outgoing-spec : {M : Type 1} → statement M
-outgoing-spec = tie.close (tie.spec returns returns-2 returns-3 returns-4 returns-5 returns-6 returns-7 returns-8)
+outgoing-spec =
+    tie.close
+    (tie.spec
+    returns
+    returns-2
+    returns-3
+    returns-4
+    returns-5
+    returns-6
+    returns-7
+    returns-8)
