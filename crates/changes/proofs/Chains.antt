@@ -92,23 +92,27 @@ after-call c m = go (isAccepted (lacksBytes (length m)) (stateOf m) c) refl
         record { state = rw e (r .0); size = rw e (r .1) }
     go false e = record { state = rw e; size = rw e }
 
+-- so what meets its promise keeps the memory's length
+pub keeps-length : (c : Call) (m after : List ℕ) (n : ℕ) → Provides c m after n → length after ≡ length m
+keeps-length c m after n p = ap length (p .memory-is) ∙ after-call c m .size
+
 -- CHAINS
 
 pub chain-size : {m end : List ℕ} {cs : List Call} {rs : List ℕ} → Chain m cs rs end → length end ≡ length m
 chain-size done = refl
-chain-size (next {c} {m = m} p t) = chain-size t ∙ (ap length (p .memory-is) ∙ after-call c m .size)
+chain-size (next {c} {m = m} p t) = chain-size t ∙ keeps-length c m _ _ p
 
 pub chain-numbers : {m end : List ℕ} {cs : List Call} {rs : List ℕ} → Chain m cs rs end → rs ≡ refusalsFrom (lacksBytes (length m)) (stateOf m) cs
 chain-numbers done = refl
 chain-numbers (next {c} {cs} {m = m} {between = b} p t) =
-    let size : length b ≡ length m = ap length (p .memory-is) ∙ after-call c m .size in
+    let size : length b ≡ length m = keeps-length c m b _ p in
     let state : stateOf b ≡ after (lacksBytes (length m)) (stateOf m) c = ap stateOf (p .memory-is) ∙ after-call c m .state in
     ap₂ _∷_ (p .number-is) (chain-numbers t ∙ ap₂ (λ n s. refusalsFrom (lacksBytes n) s cs) size state)
 
 pub chain-state : {m end : List ℕ} {cs : List Call} {rs : List ℕ} → Chain m cs rs end → stateOf end ≡ putInFrom (lacksBytes (length m)) (stateOf m) cs
 chain-state done = refl
 chain-state (next {c} {cs} {m = m} {between = b} p t) =
-    let size : length b ≡ length m = ap length (p .memory-is) ∙ after-call c m .size in
+    let size : length b ≡ length m = keeps-length c m b _ p in
     let state : stateOf b ≡ after (lacksBytes (length m)) (stateOf m) c = ap stateOf (p .memory-is) ∙ after-call c m .state in
     chain-state t ∙ ap₂ (λ n s. putInFrom (lacksBytes n) s cs) size state
 

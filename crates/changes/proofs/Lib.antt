@@ -1,4 +1,3 @@
 pub mod PromiseLaws
 pub mod FitLaws
 pub mod Chains
-pub mod ArmLaws

@@ -1,4 +1,4 @@
--- What a call gives over a plan that is known to be sound, and the parts of its body, as the fields that callers use.
+-- What a call over a known plan is asked with, and the parts of its body, as the fields that callers use.
 use Prim.Native.Nat.{ℕ}
 use mathlib.Core.Path.{_≡_}
 use mathlib.Core.Logic.{_≢_}
@@ -10,18 +10,18 @@ use Rattle.meaning.specs.Calls.{OPEN-PLAN, isCall, bodyLength, contentGiven, co
 use Rattle.plan.specs.State.{soundOf}
 
 -- a call of a kind but the opening's over a sound plan, with a body of just its length
-pub record Known (m : List ℕ) (kind : ℕ) (b : List ℕ) : Type 0 where
+pub record KnownCall (m : List ℕ) (kind : ℕ) (b : List ℕ) : Type 0 where
   pub sound : soundOf m ≡ true
   pub call : isCall kind ≡ true
   pub other : kind ≢ OPEN-PLAN
   pub whole : length b ≡ bodyLength kind
 
 -- r is the content that body b gives
-pub record Content (b r : List ℕ) : Type 0 where
+pub record ContentGiven (b r : List ℕ) : Type 0 where
   pub is : r ≡ contentGiven b
   pub size : length r ≡ CONTENT-BYTES
 
 -- r is the filter that body b gives
-pub record Code (b r : List ℕ) : Type 0 where
+pub record CodeGiven (b r : List ℕ) : Type 0 where
   pub is : r ≡ codeGiven b
   pub size : length r ≡ FILTER-BYTES

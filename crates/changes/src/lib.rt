@@ -13,7 +13,7 @@ ghost use Rattle.meaning.specs.Reads.{overRoom};
 ghost use Rattle.filter.specs.Slots.{FilterBytes};
 ghost use Rattle.plan.specs.Layout.{planOf};
 ghost use Rattle.plan.specs.State.{soundOf};
-ghost use Rattle.changes.specs.Given.{Content, Code};
+ghost use Rattle.changes.specs.Given.{ContentGiven, CodeGiven};
 use meaning::sizes::FILTER_BYTES;
 use meaning::sizes::LENGTH_AT;
 use meaning::sizes::PREFIX_AT;
@@ -23,7 +23,7 @@ use meaning::sizes::SET_NUMBER_BYTES;
 // The content that the body of a set gives.
 pub fn content_given<'a>(body: &'a [u8]) -> &'a [u8]
     requires { ⌜ length (now body) ≡ SET-BODY ⌝ }
-    ensures { λ r. ⌜ Content (now (body .entry)) (now r) ⌝ }
+    ensures { λ r. ⌜ ContentGiven (now (body .entry)) (now r) ⌝ }
 {
     &body[SET_NUMBER_BYTES..SET_BODY]
 }
@@ -31,7 +31,7 @@ pub fn content_given<'a>(body: &'a [u8]) -> &'a [u8]
 // The filter that the body of a rule gives.
 pub fn code_given<'a>(body: &'a [u8]) -> &'a [u8]
     requires { ⌜ FILTER-BYTES ≤ length (now body) ⌝ }
-    ensures { λ r. ⌜ Code (now (body .entry)) (now r) ⌝ }
+    ensures { λ r. ⌜ CodeGiven (now (body .entry)) (now r) ⌝ }
 {
     &body[0..FILTER_BYTES]
 }

@@ -8,7 +8,7 @@ use mathlib.Core.Bool.{Bool, true, false, _||_, and-true, and-false}
 use mathlib.Core.List.{List, _∷_}
 use lib.ListN.{length, take, drop}
 use lib.Dec.{eqb, ltb}
-use borrow.Author.Tests.{ltb-true, ltb-false, lt-ltb, eqb-true, eq-eqb, ne-eqb}
+use borrow.Author.Tests.{ltb-true, lt-ltb, eqb-true, eq-eqb, ne-eqb}
 use Rattle.meaning.specs.Basics.{if_then_else_, isZero}
 use Rattle.meaning.specs.Filters.{Filter}
 use Rattle.meaning.specs.Actions.{CCDEF, CA, isX, valueOf, ActionSet}
@@ -17,6 +17,7 @@ use Rattle.meaning.specs.Conditioning.{width, meetsTooFew, short, Stretch, take
 use Rattle.meaning.specs.Reads.{stretchBy}
 use Rattle.meaning.specs.declared.Span.{Span}
 use Rattle.meaning.proofs.Tests.{same-tests, is-true, true-is, is-false, false-is, or-left-false, or-right-false}
+use Rattle.meaning.proofs.Stretches.{enough}
 use Rattle.actions.proofs.Lists.{on}
 use Rattle.conditioning.specs.Spans.{stretchIn, Covers}
 
@@ -33,13 +34,6 @@ too-few prefix left a least e = ap (ltb left) e ∙ go (isX a)
     go : (x : Bool) → ltb left (if x then 1 else fixedOf prefix a) ≡ (if x then isZero left else ltb left (fixedOf prefix a))
     go true = none left
     go false = refl
-
-pub enough : (prefix left : ℕ) (a : CA) → meetsTooFew prefix left a ≡ false → width prefix left a ≤ left
-enough prefix left a e = go (isX a) refl
-  where
-    go : (x : Bool) → isX a ≡ x → width prefix left a ≤ left
-    go true p = rw p (omega arith)
-    go false p = rw p (ltb-false left (fixedOf prefix a) (rw p at e))
 
 -- where the digits are enough for a list, its first action takes no more than are left, and the rest is enough for those behind it
 pub enough-for : (prefix left : ℕ) {w : ℕ} {a : CA} {xs ys : List CA} → w ≡ width prefix left a → xs ≡ a ∷ ys → short prefix left xs ≡ false

@@ -13,7 +13,7 @@ use borrow.Author.Tests.{leb-true, ltb-true, ltb-false}
 use Rattle.meaning.specs.Basics.{writtenOver}
 use Rattle.meaning.specs.Calls.{Call, isCall, bodyLength, callOf}
 use Rattle.changes.specs.Promise.{numberFor, memoryAfter, Provides}
-use Rattle.changes.proofs.ArmLaws.{keeps-length}
+use Rattle.changes.proofs.Chains.{keeps-length}
 use Rattle.history.specs.Replays.{Replays, callsIn, numbersOf, memoryBehind}
 use Rattle.history.specs.Parts.{beginsWhole}
 

@@ -14,8 +14,8 @@ use Rattle.meaning.specs.Actions.{CC, AC, SN, DN, ZN, IGN, LAST-COUNTED,
 use Rattle.meaning.specs.Groups.{isSet, oneFormat, formatStands}
 use Rattle.meaning.specs.Conditioning.{Stretch, stretchOf, digitsAt, valueFrom, conditionedFrom}
 use Rattle.meaning.specs.Stretches.{stretchAt, Covers, covered, fixed, ignored, matched, allLeft, takesNone}
-use Rattle.meaning.proofs.Tests.{is-true, true-is, is-false, false-is, and-left, and-right, or-other, or-left-false, or-right-false, allBelow, at-below}
-use Rattle.meaning.proofs.Stretches.{ranged, ranged-below, part-length}
+use Rattle.meaning.proofs.Tests.{is-true, true-is, is-false, false-is, and-left, and-right, or-other, or-left-false, or-right-false, allBelow, at-below, part-length}
+use Rattle.meaning.proofs.Stretches.{ranged, ranged-below}
 
 -- ONE VALUE, AND TWO
 

@@ -200,26 +200,25 @@ agreed lacks cs p e a =
 first : (lacks : List ℕ → Bool) (o : Operation) (b : List ℕ) → refusal lacks none (record { operation = o; body = b }) ≡ 0
     → (p : Plan) × (made o none (bodyOf (record { operation = o; body = b })) ≡ some p) × Agrees p (record { operation = o; body = b } ∷ [])
 unfolding fresh refusal
-first lacks openPlan b e =
-    let c : Call = record { operation = openPlan; body = b } in (
-      _,
-      refl,
-      record {
-        is-sound = accepted-sound lacks none c tt e;
-        opening = bodyOf c;
-        opened = refl;
-        rooms = refl;
-        settings = refl;
-        sets = λ n. empty-slots ((roomsOf (openedRooms (bodyOf c))) .sets) n;
-        filters = λ f. refl;
-      },
-    )
-first lacks addSet b e = absurd (refused-none lacks addSet b refl e)
-first lacks replaceSet b e = absurd (refused-none lacks replaceSet b refl e)
-first lacks removeSet b e = absurd (refused-none lacks removeSet b refl e)
-first lacks addRule b e = absurd (refused-none lacks addRule b refl e)
-first lacks changeRule b e = absurd (refused-none lacks changeRule b refl e)
-first lacks removeRule b e = absurd (refused-none lacks removeRule b refl e)
+first lacks o b e = go (asks o) e
+  where
+    go : {o : Operation} → Asks o → refusal lacks none (record { operation = o; body = b }) ≡ 0
+        → (p : Plan) × (made o none (bodyOf (record { operation = o; body = b })) ≡ some p) × Agrees p (record { operation = o; body = b } ∷ [])
+    go opens e =
+        let c : Call = record { operation = openPlan; body = b } in (
+          _,
+          refl,
+          record {
+            is-sound = accepted-sound lacks none c tt e;
+            opening = bodyOf c;
+            opened = refl;
+            rooms = refl;
+            settings = refl;
+            sets = λ n. empty-slots ((roomsOf (openedRooms (bodyOf c))) .sets) n;
+            filters = λ f. refl;
+          },
+        )
+    go {o} (changes c) e = absurd (refused-none lacks o b (c .other) e)
 
 after-first : (lacks : List ℕ → Bool) (c : Call) → refusal lacks none c ≡ 0 → (p : Plan) × (after lacks none c ≡ some p) × Agrees p (c ∷ [])
 unfolding after

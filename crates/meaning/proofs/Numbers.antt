@@ -22,7 +22,7 @@ use Rattle.meaning.specs.Stretches.{Accounted}
 use Rattle.meaning.specs.Plan.{Plan, settingsIn, held, contentRules, contentPasses, slotPasses, fitsHeld, rulesFit, sound}
 use Rattle.meaning.specs.Reads.{Read, unread, read, conditionedBy, conditionedUnder, conditioned, stretchBy, stretchUnder, stretch}
 use Rattle.meaning.specs.Numbers.{sumF, Conditions, NumberHolds, EveryNumber}
-use Rattle.meaning.proofs.Tests.{is-true, true-is, is-false, false-is, and-left, and-right, all-at, all-mem, all-place}
+use Rattle.meaning.proofs.Tests.{is-true, true-is, is-false, false-is, and-left, and-right, all-at, all-mem, all-place, digits-few}
 use Rattle.meaning.proofs.Choice.{Choice, noRule, theRule, choice}
 use Rattle.meaning.proofs.Stretches.{ranged, all-ranged, Ready, short-exactly, accounted}
 use Rattle.meaning.proofs.ConditionedNumber.{conditioned-length}
@@ -66,12 +66,6 @@ module _ (p : Plan) (s : Sound p) (class : ℕ) (ds : List ℕ) (r : Rule) (cont
 
 -- THE COUNTRY CODE HAS 1 TO 3 DIGITS, THE NUMBER AT MOST 32
 
-digits-length : (lo hi : ℕ) (b : List ℕ) → T (digitsInRange lo hi b) → length (digitsOf b) ≤ hi
-digits-length lo hi [] t = absurd t
-digits-length lo hi (n ∷ ds) t =
-    let w = and-left (within lo hi n) (all isDigit (take n ds) && all isZero (drop n ds)) t in
-    rw (length-take n ds) (omega (arith, leb→le n hi (and-right (leb lo n) (leb n hi) w)))
-
 -- a digit string as long as its length byte says
 digits-least : (lo hi : ℕ) (b : List ℕ) → T (digitsInRange lo hi b) → hi < length b → lo ≤ length (digitsOf b)
 digits-least lo hi [] t h = absurd t
@@ -114,7 +108,7 @@ module _ (p : Plan) (t : T (sound p)) (class : ℕ) (ds : List ℕ) (r : Rule) (
       conditioned-length (settingsIn p .country) (filterIn r .prefix) ds (actionsOf content .cas) (k .in-range)
       (accounted (filterIn r) (actionsOf content) class ds k (λ (v : ℕ). stretchOf v (length (filterIn r .prefix)) (length ds) (actionsOf content .cas)) (λ v z h. refl) q .covers)
       (leb→le (length ds) 32 (all-at 1 (dialledRanges class ds) (given .in-range)))
-      (digits-least 1 3 (part 0 4 (p .settings)) country-range (omega arith)) (digits-length 1 3 (part 0 4 (p .settings)) country-range)
+      (digits-least 1 3 (part 0 4 (p .settings)) country-range (omega arith)) (digits-few 1 3 (part 0 4 (p .settings)) country-range)
       (given .actions) (groups p (sound-parts p t) class ds r content given 1)
 
   -- where conditioning is refused, and where it is not

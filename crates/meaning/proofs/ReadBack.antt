@@ -22,6 +22,7 @@ use Rattle.meaning.specs.Calls.{Operation, openPlan, addSet, replaceSet,
 use Rattle.meaning.specs.LookBack.{openingAfter, contentAfter, setAfter}
 use Rattle.meaning.proofs.Tests.{true-is, is-true, and-left, or-left-false, or-right-false, not-not, passed-at}
 use Rattle.meaning.proofs.RuleLists.{before, same-filter, filter-same, moved}
+use Rattle.meaning.proofs.CallKinds.{Asks, opens, changes, asks}
 use Rattle.meaning.proofs.Soundness.{Sound, below-room, accepted-passed}
 
 -- SETS
@@ -166,14 +167,12 @@ parts-whole b h =
 
 opening-after : (p : Plan) (o : Operation) (b : List ℕ) → length b ≡ bodyLength (kindOf o)
     → openingIn (made o (some p) b) ≡ openingAfter o b (some (p .rooms ++ p .settings))
-unfolding fresh withSlot withRules bodyLength
-opening-after p openPlan b h = ap some (parts-whole b h)
-opening-after p addSet b h = refl
-opening-after p replaceSet b h = refl
-opening-after p removeSet b h = refl
-opening-after p addRule b h = refl
-opening-after p changeRule b h = refl
-opening-after p removeRule b h = refl
+unfolding fresh bodyLength
+opening-after p o b h = go (asks o) h
+  where
+    go : {o : Operation} → Asks o → length b ≡ bodyLength (kindOf o) → openingIn (made o (some p) b) ≡ openingAfter o b (some (p .rooms ++ p .settings))
+    go opens h = ap some (parts-whole b h)
+    go (changes c) h = rw (c .made-is (some p) b, c .rooms-stay b p, c .settings-stay b p, c .opening-stays b (some (p .rooms ++ p .settings)))
 
 -- AFTER AN ACCEPTED CALL OVER A SOUND PLAN
 

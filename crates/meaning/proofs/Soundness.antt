@@ -1,16 +1,16 @@
 -- Every accepted call leaves a sound plan sound, and an accepted opening makes one.
-use Prim.Native.Nat.{ℕ, zero, suc, _+_, _≤_, _<_}
+use Prim.Native.Nat.{ℕ, zero, suc, _≤_, _<_}
 use mathlib.Core.Path.{_≡_, refl, ap, sym, subst, _∙_}
 use mathlib.Core.Bool.{Bool, true, false, _&&_, _||_, not}
 use mathlib.Core.List.{List, [], _∷_, List·Memᴰ}
 use mathlib.Core.Option.{Option, none, some}
 use native.Mathlib.Omega.{arith}
-use lib.ListN.{length, take, drop, getD, set, replicate, length-set, length-replicate, length-drop}
+use lib.ListN.{length, take, getD, set, replicate, length-set, length-replicate}
 use lib.Seq.{getD-set-same, getD-set-other, length-take-le}
 use lib.Dec.{T, T-not, not-T, eqb, leb, ltb, eqb→eq, eqb-refl, le→leb, leb→le, nleb→lt, nltb→le}
 use borrow.Author.Tests.{eqb-true, eqb-false}
 use Rattle.meaning.specs.Sizes.{ROOMS-BYTES, SETTINGS-BYTES, OPENING-BYTES, SET-NUMBER-BYTES, CONTENT-BYTES, SET-BODY, FILTER-BYTES, RULE-BODY}
-use Rattle.meaning.specs.Basics.{if_then_else_, all, any, allOf, isSome, part}
+use Rattle.meaning.specs.Basics.{if_then_else_, all, any, allOf, isSome}
 use Rattle.meaning.specs.Refusals.{Line, firstOf}
 use Rattle.meaning.specs.Settings.{Rooms, roomsOf, roomsInRange, settingsInRange}
 use Rattle.meaning.specs.Filters.{Filter, filterOf, filterInRange}
@@ -20,7 +20,7 @@ use Rattle.meaning.specs.Groups.{groupsHold, fit}
 use Rattle.meaning.specs.Plan.{Plan, roomsIn, held, fresh, withSlot, withRules, sized, contentPasses, slotPasses, codePasses, fitsHeld, rulesFit, codesPass, soundRules, sound, NamesHeld}
 use Rattle.meaning.specs.Reads.{overRoom}
 use Rattle.meaning.specs.Calls.{Operation, openPlan, addSet, replaceSet, removeSet, addRule, changeRule, removeRule, Call, kindOf, bodyLength, isCut, bodyOf, openedRooms, openedSettings, setNumber, contentGiven, codeGiven, setGiven, ruleGiven, holdsFilter, openingLines, addSetLines, replaceSetLines, removeSetLines, addRuleLines, changeRuleLines, removeRuleLines, overPlan, linesOf, refusal, onPlan, made, isAccepted, after}
-use Rattle.meaning.proofs.Tests.{is-true, is-false, true-is, false-is, and-left, and-right, and-both, or-left-false, or-right-false, or-use, not-not, each-all, all-at, passed-at, passed, all-weaken, all-both, none-any, all-set, all-replicate, all-mem}
+use Rattle.meaning.proofs.Tests.{is-true, is-false, true-is, false-is, and-left, and-right, and-both, or-left-false, or-right-false, or-use, not-not, each-all, all-at, passed-at, passed, all-weaken, all-both, none-any, all-set, all-replicate, all-mem, part-length}
 use Rattle.meaning.proofs.RuleLists.{same-filter, moved, all-insert, in-order-insert, length-insert, all-without, in-order-without, length-without, all-rename, in-order-rename, length-rename}
 
 -- WHAT SOUND MEANS, FIELD BY FIELD
@@ -87,9 +87,6 @@ below-room p n s t = rw (s .room) (nleb→lt ((roomsIn p) .sets) n t)
 
 -- OPENING
 
-part-size : (b : List ℕ) (at n : ℕ) → at + n ≤ length b → length (part at n b) ≡ n
-part-size b at n h = length-take-le n (drop at b) (rw (length-drop at b) (omega arith))
-
 pub opening-sound : (lacks : List ℕ → Bool) (b : List ℕ) → length b ≡ OPENING-BYTES → firstOf (openingLines lacks b) ≡ 0 → Sound (fresh (openedRooms b) (openedSettings b))
 unfolding fresh openingLines codesPass rulesFit
 opening-sound lacks b h e =
@@ -97,7 +94,7 @@ opening-sound lacks b h e =
     record {
       rooms-size = length-take-le ROOMS-BYTES b (omega arith);
       rooms-range = and-left (roomsInRange (openedRooms b)) (settingsInRange (openedSettings b)) ranges;
-      settings-size = part-size b ROOMS-BYTES SETTINGS-BYTES (omega arith);
+      settings-size = part-length b ROOMS-BYTES SETTINGS-BYTES (omega arith);
       settings-range = and-right (roomsInRange (openedRooms b)) (settingsInRange (openedSettings b)) ranges;
       room = length-replicate ((roomsOf (openedRooms b)) .sets) none;
       pass = all-replicate slotPasses ((roomsOf (openedRooms b)) .sets) none tt;
@@ -134,7 +131,7 @@ content-passes : (b : List ℕ) → length b ≡ SET-BODY → T (not (not (conte
     → T (slotPasses (some (contentGiven b)))
 unfolding contentPasses
 content-passes b h t u =
-    let size : T (sized CONTENT-BYTES (contentGiven b)) = rw (part-size b SET-NUMBER-BYTES CONTENT-BYTES (omega arith)) tt in
+    let size : T (sized CONTENT-BYTES (contentGiven b)) = rw (part-length b SET-NUMBER-BYTES CONTENT-BYTES (omega arith)) tt in
     and-both (sized CONTENT-BYTES (contentGiven b)) _ size
     (and-both (contentInRange (contentGiven b)) _ (not-not (contentInRange (contentGiven b)) t)
     (and-both (groupsHold (actionsOf (contentGiven b))) true (not-not (groupsHold (actionsOf (contentGiven b))) u) tt))

@@ -6,8 +6,8 @@ use mathlib.Core.Logic.{_↔_, _≢_}
 use mathlib.Core.Bool.{Bool, true, false, _&&_, _||_, not}
 use mathlib.Core.List.{List, [], _∷_, _++_, List·Memᴰ, List·Memᴰ·head, List·Memᴰ·tail}
 use native.Mathlib.Omega.{arith}
-use lib.ListN.{length, take, drop, getD, length-drop, take-append-drop}
-use lib.Seq.{length-take-le, drop-drop, drop-length}
+use lib.ListN.{length, take, drop, getD, take-append-drop}
+use lib.Seq.{drop-drop, drop-length}
 use lib.Dec.{T, T-not, ltb, leb, eqb, eqb-refl, eqb→eq, leb→le, ltb→lt}
 use borrow.Author.Tests.{eqb-true, eqb-false, leb-true, leb-false, ltb-true, ltb-false, lt-ltb, le-ltb, le-leb, lt-leb, eq-eqb, ne-eqb}
 use Rattle.meaning.specs.Basics.{if_then_else_, all, any, isEmpty, isZero, within, part}
@@ -16,7 +16,7 @@ use Rattle.meaning.specs.Actions.{IGN, LAST-COUNTED, SNX, ZNX, FPFX, CCD
 use Rattle.meaning.specs.Groups.{isSet, eachValueOnce, fpfxFirst, onlyCcdefAfterX, fixedOf, fixedSum, fpfxMeetsPrefix, sumFits, casFit}
 use Rattle.meaning.specs.Conditioning.{width, meetsTooFew, short, Stretch, stretchFrom, stretchOf, digitsAt, adds, joined}
 use Rattle.meaning.specs.Stretches.{stretchAt, Covers, covered, fixed, ignored, matched, allLeft, takesNone, ShortExactly, Accounted}
-use Rattle.meaning.proofs.Tests.{is-true, true-is, is-false, false-is, and-left, and-right, and-both, or-left-false, or-right-false, or-other, all-mem, any-mem, allBelow, at-below}
+use Rattle.meaning.proofs.Tests.{is-true, true-is, is-false, false-is, and-left, and-right, and-both, or-left-false, or-right-false, or-other, all-mem, any-mem, allBelow, at-below, part-length}
 use Rattle.meaning.proofs.Choice.{Fits, fits-parts}
 
 -- RANGE, OF EACH ACTION OF A LIST
@@ -225,7 +225,7 @@ ccdefs-taken m left (a ∷ xs) t =
     rw (ccdef-width m left a (and-left (isCCDEF a) (all isCCDEF xs) t), ccdefs-taken m (left - 0) xs (and-right (isCCDEF a) (all isCCDEF xs) t))
 
 -- an action that meets enough digits takes no more than there are
-enough : (m left : ℕ) (a : CA) → meetsTooFew m left a ≡ false → width m left a ≤ left
+pub enough : (m left : ℕ) (a : CA) → meetsTooFew m left a ≡ false → width m left a ≤ left
 enough m left a e = go (isX a) e
   where
     go : (b : Bool) → (if b then isZero left else ltb left (fixedOf m a)) ≡ false → (if b then left else fixedOf m a) ≤ left
@@ -361,9 +361,6 @@ module _ (read : ℕ → Stretch) (prefix ds : List ℕ) (prefix-is : prefix ≡
 
 part-rest : (ds : List ℕ) (at n : ℕ) → at + n ≤ length ds → take n (drop at ds) ++ drop (at + n) ds ≡ drop at ds
 part-rest ds at n h = rw (← drop-drop n at ds) (take-append-drop n (drop at ds))
-
-pub part-length : (ds : List ℕ) (at n : ℕ) → at + n ≤ length ds → length (part at n ds) ≡ n
-part-length ds at n h = length-take-le n (drop at ds) (rw (length-drop at ds) (omega arith))
 
 module _ (read : ℕ → Stretch) (prefix ds : List ℕ) where
   digits-read : ℕ → List ℕ

@@ -7,10 +7,11 @@ use mathlib.Core.List.{List, [], _∷_, _++_, List·Memᴰ, List·Memᴰ·head, 
 use mathlib.Core.Option.{Option, none, some}
 use native.Mathlib.Omega.{arith}
 use native.Mathlib.Nat.{le-of-suc-le-suc}
-use lib.ListN.{length, take, drop, getD, set, replicate, length-take}
+use lib.ListN.{length, take, drop, getD, set, replicate, length-take, length-drop}
+use lib.Seq.{length-take-le}
 use lib.Dec.{T, T-not, leb, eqb, leb→le, eqb-refl, eqb→eq}
 use borrow.Author.Tests.{eqb-true, eqb-false}
-use Rattle.meaning.specs.Basics.{if_then_else_, all, any, count, allOf, within, isZero, isSome, isDigit, sameBytes, digitsOf, digitsInRange}
+use Rattle.meaning.specs.Basics.{if_then_else_, all, any, count, allOf, within, isZero, isSome, part, isDigit, sameBytes, digitsOf, digitsInRange}
 use Rattle.meaning.specs.Refusals.{Line, firstOf}
 
 -- BOOLEANS
@@ -48,10 +49,6 @@ or-left-false false b t = tt
 pub or-right-false : (a b : Bool) → T (not (a || b)) → T (not b)
 or-right-false true b t = absurd t
 or-right-false false b t = t
-
-pub or-both-false : (a b : Bool) → T (not a) → T (not b) → T (not (a || b))
-or-both-false true b s t = s
-or-both-false false b s t = t
 
 pub or-other : (a b : Bool) → T (a || b) → T (not a) → T b
 or-other true b t u = absurd u
@@ -217,6 +214,11 @@ same-bytes [] (y ∷ ys) t = absurd t
 same-bytes (x ∷ xs) [] t = absurd t
 same-bytes (x ∷ xs) (y ∷ ys) t =
     ap₂ _∷_ (eqb→eq x y (and-left (eqb x y) (sameBytes xs ys) t)) (same-bytes xs ys (and-right (eqb x y) (sameBytes xs ys) t))
+
+-- PARTS
+
+pub part-length : (xs : List ℕ) (at n : ℕ) → at + n ≤ length xs → length (part at n xs) ≡ n
+part-length xs at n h = length-take-le n (drop at xs) (rw (length-drop at xs) (omega arith))
 
 -- DIGIT STRINGS
 

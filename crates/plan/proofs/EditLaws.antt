@@ -7,8 +7,8 @@ use mathlib.Core.List.{List, [], _∷_, _++_, map, append-assoc, append-nil}
 use mathlib.Core.Option.{Option, none, some}
 use native.Mathlib.Omega.{arith}
 use native.Mathlib.Nat.{mul-suc, mul-zero, sub-zero}
-use lib.ListN.{length, take, drop, getD, set, replicate, length-append, length-map, length-set, length-drop, List·getD-map}
-use lib.Seq.{take-at, drop-at, take-all, take-append-add, drop-append-add, append-snoc, set-at, drop-length, length-take-le, drop-drop}
+use lib.ListN.{length, take, drop, getD, set, replicate, length-append, length-map, length-set, List·getD-map}
+use lib.Seq.{take-at, drop-at, take-append-add, drop-append-add, append-snoc, set-at, length-take-le, drop-drop}
 use borrow.Rule.Slice.PartMut.{putMid, midOf, post-is, mid-len}
 use Rattle.meaning.specs.Sizes.{ROOMS-BYTES, SETTINGS-BYTES, CONTENT-BYTES, FILTER-BYTES, SET-AT, RULE-BODY, SETTINGS-AT, SETTINGS-END, SETS-AT, CONTENT-AT, COUNT-AT, SET-WIDTH, RULE-WIDTH}
 use Rattle.meaning.specs.Basics.{writtenOver}
@@ -18,7 +18,7 @@ use Rattle.meaning.specs.Plan.{Plan, roomsIn, fresh, withSlot, withRules}
 use Rattle.meaning.specs.History.{noRule}
 use Rattle.meaning.proofs.Tests.{all-place}
 use Rattle.meaning.proofs.Soundness.{Sound}
-use Rattle.buffer.proofs.ListLaws.{map-set, map-insert, map-remove, length-insert, length-remove, element-at}
+use Rattle.buffer.proofs.ListLaws.{map-set, map-insert, map-remove, length-insert, length-remove, element-at, rest-back, rest-is}
 use Rattle.buffer.specs.Bytes.{withWord}
 use Rattle.buffer.specs.Zeros.{zeros}
 use Rattle.buffer.specs.Slots.{slots, flat, Wide, withSlots, insertAt, removeAt}
@@ -57,13 +57,6 @@ put-among w n at h ss t x l wide k =
     sym (set-bytes w n (length ss) area x k) ∙ ap₂ (λ (us : List (List ℕ)) (u : List ℕ). flat (set us n x) ++ u) cut rest in
     ap (λ (u : List ℕ). take a (h ++ area) ++ (x ++ u)) (post-is a (a + w) (h ++ area) (omega arith))
     ∙ (ap₂ (λ (u v : List ℕ). u ++ (x ++ v)) front behind ∙ (append-assoc h (take (w * n) area) (x ++ drop (w * suc n) area) ∙ ap (λ (u : List ℕ). h ++ u) inner))
-
--- the part from a to the end, lent and come back
-tail-is : (a : ℕ) (m : List ℕ) → midOf a (length m - a) m ≡ drop a m
-tail-is a m = take-all (length m - a) (drop a m) (rw (length-drop a m) (omega arith))
-
-tail-back : (a : ℕ) (m ys : List ℕ) → a ≤ length m → putMid a (length m - a) m ys ≡ take a m ++ ys
-tail-back a m ys h = ap (λ (u : List ℕ). take a m ++ (ys ++ u)) (post-is a (length m) m h ∙ drop-length m) ∙ ap (λ (u : List ℕ). take a m ++ u) (append-nil ys)
 
 -- ONE SET
 
@@ -267,7 +260,7 @@ module _ (m : List ℕ) (a : ℕ) (e : soundOf m ≡ true) (a-is : a ≡ SETS-AT
   unfolding planOf
   tail-area =
       let s = sound-is m e in
-      tail-is a m ∙ (ap₂ (λ (n : ℕ) (l : List ℕ). drop n l) a-is (s .bytes) ∙ rule-area (planOf m) (s .plan) (restOf m))
+      rest-is a m ∙ (ap₂ (λ (n : ℕ) (l : List ℕ). drop n l) a-is (s .bytes) ∙ rule-area (planOf m) (s .plan) (restOf m))
 
   front-is : take a m ≡ headerImage (planOf m) ++ setsImage (planOf m)
   unfolding planOf
@@ -282,7 +275,7 @@ module _ (m : List ℕ) (a : ℕ) (e : soundOf m ≡ true) (a-is : a ≡ SETS-AT
   area-left rs ys v y v-is =
       let s = sound-is m e in
       let within : a ≤ length m = omega (arith, numbers m e .size) in
-      rw (tail-back a m ys within, front-is, y, v-is) (rules-written (planOf m) (s .plan) (restOf m) rs)
+      rw (rest-back a m ys within, front-is, y, v-is) (rules-written (planOf m) (s .plan) (restOf m) rs)
 
   module _ (n k : ℕ) (n-is : n ≡ ruleCount m) where
     pub rule-inserted : (x : Rule) (slot ys : List ℕ) → k ≤ n → n < ruleRoom m → slot ≡ ruleImage x

@@ -16,12 +16,13 @@ use Rattle.meaning.specs.Actions.{contentInRange}
 use Rattle.meaning.specs.Plan.{Plan, roomsIn, held, withSlot, withRules}
 use Rattle.meaning.specs.Reads.{overRoom}
 use Rattle.meaning.specs.Calls.{setNumber, contentGiven, codeGiven, setGiven, holdsFilter, addSetLines, replaceSetLines, removeSetLines, addRuleLines, changeRuleLines, removeRuleLines}
-use Rattle.meaning.proofs.Tests.{is-true, is-false, and-left, or-left-false, or-right-false, not-not, passed-at}
+use Rattle.meaning.proofs.Tests.{is-true, is-false, and-left, or-left-false, not-not, passed-at}
 use Rattle.plan.specs.Layout.{image, planOf}
 use Rattle.plan.specs.State.{soundOf, restOf}
 use Rattle.changes.specs.Promise.{memoryOf}
 use Rattle.changes.proofs.PromiseLaws.{rest-behind}
 use Rattle.rule_changes.specs.Places.{GivesFilter}
+use Rattle.rule_changes.proofs.Given.{in-range}
 
 -- SETS: the number is not over the room
 
@@ -45,9 +46,7 @@ module _ (p : Plan) (b : List ℕ) where
 
 module _ (m b : List ℕ) (s : soundOf m ≡ true) where
   gives : length b ≡ RULE-BODY → T (not (overRoom (planOf m) (setGiven b) || not (filterInRange (codeGiven b)))) → GivesFilter m b
-  gives size t =
-      let range : Bool = filterInRange (codeGiven b) in
-      record { sound = s; whole = omega arith; range = is-true range (not-not range (or-right-false (overRoom (planOf m) (setGiven b)) (not range) t)) }
+  gives size t = in-range s size refl (is-false (overRoom (planOf m) (setGiven b) || not (filterInRange (codeGiven b))) t)
 
   module _ (size : length b ≡ RULE-BODY) where
     pub added-rule : firstOf (addRuleLines (planOf m) b) ≡ 0

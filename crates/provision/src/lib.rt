@@ -9,7 +9,7 @@ ghost use Rattle.meaning.specs.Calls.{openPlan, addSet, replaceSet, removeSet, 
 ghost use Rattle.meaning.specs.Answers.{numberOfProvisioned};
 ghost use Rattle.plan.specs.Layout.{planOf};
 ghost use Rattle.changes.specs.Promise.{memoryOf, Provides, calls};
-ghost use Rattle.changes.specs.Given.{Known};
+ghost use Rattle.changes.specs.Given.{KnownCall};
 use meaning::Provisioned;
 use meaning::Refusal;
 use meaning::kinds;
@@ -18,7 +18,7 @@ use meaning::kinds;
 
 // The refusal of a call, by its own checks.
 fn refusal_known(plan: &[u8], kind: u8, body: &[u8]) -> Provisioned
-    requires { ⌜ Known (now plan) kind (now body) ⌝ }
+    requires { ⌜ KnownCall (now plan) kind (now body) ⌝ }
     ensures { λ r. ⌜ numberOfProvisioned r ≡ firstOf (linesOf (operationOf kind) (lacksBytes (length (now (plan .entry)))) (some (planOf (now (plan .entry)))) (now (body .entry))) ⌝ }
 {
     match kind {
@@ -33,7 +33,7 @@ fn refusal_known(plan: &[u8], kind: u8, body: &[u8]) -> Provisioned
 
 // What an accepted call makes.
 fn make(plan: &mut [u8], kind: u8, body: &[u8])
-    requires { ⌜ Known (now plan) kind (now body) × (firstOf (linesOf (operationOf kind) (lacksBytes (length (now plan))) (some (planOf (now plan))) (now body)) ≡ 0) ⌝ }
+    requires { ⌜ KnownCall (now plan) kind (now body) × (firstOf (linesOf (operationOf kind) (lacksBytes (length (now plan))) (some (planOf (now plan))) (now body)) ≡ 0) ⌝ }
     ensures { λ _. ⌜ now (plan .exit) ≡ memoryOf (made (operationOf kind) (some (planOf (now (plan .entry)))) (now (body .entry))) (now (plan .entry)) ⌝ }
 {
     match kind {
@@ -48,7 +48,7 @@ fn make(plan: &mut [u8], kind: u8, body: &[u8])
 
 // A call: refused, or made.
 pub fn change_known(plan: &mut [u8], kind: u8, body: &[u8]) -> Provisioned
-    requires { ⌜ Known (now plan) kind (now body) ⌝ }
+    requires { ⌜ KnownCall (now plan) kind (now body) ⌝ }
     ensures { λ r. ⌜ Provides (callOf kind (now (body .entry))) (now (plan .entry)) (now (plan .exit)) (numberOfProvisioned r) ⌝ }
 {
     match refusal_known(plan, kind, body) {

@@ -1,7 +1,7 @@
 -- The lines of opening and provisioning, and the plan that they leave.
-use Prim.Native.Nat.{ℕ, zero, suc, _+_}
+use Prim.Native.Nat.{ℕ, _+_}
 use mathlib.Core.Path.{_≡_, refl, ap, ap₂, sym, _∙_}
-use mathlib.Core.Bool.{Bool, true, false, _||_, not}
+use mathlib.Core.Bool.{Bool, true, false, _||_}
 use mathlib.Core.List.{List}
 use mathlib.Core.Option.{Option, none, some}
 use native.Mathlib.Omega.{arith}
@@ -10,13 +10,12 @@ use lib.Dec.{eqb}
 use borrow.Author.Tests.{leb-true, ne-eqb, eq-eqb}
 use Rattle.meaning.specs.Basics.{if_then_else_, isZero, isSome, writtenOver}
 use Rattle.meaning.specs.Plan.{Plan}
-use Rattle.meaning.specs.Calls.{Operation, openPlan, addSet, replaceSet, removeSet, addRule, changeRule, removeRule, Call, REMOVE-RULE, LIST, isCall, bodyLength, bodyOf, refusal, made, after, operationOf, callOf}
+use Rattle.meaning.specs.Calls.{Operation, Call, REMOVE-RULE, LIST, isCall, bodyLength, bodyOf, refusal, made, after, operationOf, callOf}
 use Rattle.meaning.specs.Records.{acceptedLine, lacksProgramRoom, House, withPlan, recordText, recordHouse}
-use Rattle.meaning.proofs.Tests.{is-false, at-below}
 use Rattle.plan.specs.Layout.{planOf}
 use Rattle.plan.specs.State.{soundOf, stateOf}
 use Rattle.changes.specs.Promise.{memoryOf}
-use Rattle.meaning.proofs.CallKinds.{isOpening}
+use Rattle.meaning.proofs.CallKinds.{isOpening, Asks, opens, changes, asks, kind-of}
 use Rattle.run.specs.Runs.{InRun, RunProvides}
 use Rattle.run.proofs.RunLaws.{memory-kept, run-state}
 use Rattle.text.specs.Writes.{Writes}
@@ -37,27 +36,16 @@ sound-some m = go (soundOf m)
     go false = refl
 
 made-some : (o : Operation) (s : Option Plan) (b : List ℕ) → isSome (made o s b) ≡ (isSome s || isOpening o)
-made-some openPlan none b = refl
-made-some openPlan (some p) b = refl
-made-some addSet none b = refl
-made-some addSet (some p) b = refl
-made-some replaceSet none b = refl
-made-some replaceSet (some p) b = refl
-made-some removeSet none b = refl
-made-some removeSet (some p) b = refl
-made-some addRule none b = refl
-made-some addRule (some p) b = refl
-made-some changeRule none b = refl
-made-some changeRule (some p) b = refl
-made-some removeRule none b = refl
-made-some removeRule (some p) b = refl
+made-some o s b = go (asks o) s
+  where
+    go : {o : Operation} → Asks o → (s : Option Plan) → isSome (made o s b) ≡ (isSome s || isOpening o)
+    go opens none = refl
+    go opens (some p) = refl
+    go (changes c) none = rw (c .made-is none b, c .other)
+    go (changes c) (some p) = rw (c .made-is (some p) b)
 
 opening-kind : (k : ℕ) → isCall k ≡ true → isOpening (operationOf k) ≡ isZero k
-unfolding operationOf isCall
-opening-kind zero h = refl
-opening-kind (suc k) h =
-    is-false (isOpening (operationOf (suc k))) (at-below (λ (j : ℕ). not (isOpening (operationOf (suc j)))) REMOVE-RULE tt k (omega (arith, leb-true (suc k) REMOVE-RULE h)))
-    ∙ sym (ne-eqb (suc k) 0 (λ q. omega (arith, q)))
+opening-kind k h = ap isZero (kind-of k h)
 
 after-some : (s : Option Plan) (k : ℕ) (body : List ℕ) → isCall k ≡ true
     → isSome (after lacksProgramRoom s (callOf k body)) ≡ openedAfter (isSome s) k (refusal lacksProgramRoom s (callOf k body))

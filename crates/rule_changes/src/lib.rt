@@ -27,7 +27,7 @@ use meaning::sizes::SET_AT;
 
 // THE REFUSALS
 
-// RANGE of a rule that a body gives: its set number is at or over the room, or its filter out of range.
+// Whether the rule that a body gives is out of range: its set number at or over the room, or its filter.
 fn out_of_range(plan: &[u8], body: &[u8]) -> bool
     requires { ⌜ (soundOf (now plan) ≡ true) × (length (now body) ≡ RULE-BODY) ⌝ }
     ensures { λ r. ⌜ r ≡ (overRoom (planOf (now (plan .entry))) (setGiven (now (body .entry))) || not (filterInRange (codeGiven (now (body .entry))))) ⌝ }
@@ -77,6 +77,7 @@ fn is_full(plan: &[u8]) -> bool
     plan::rule_count(plan) == plan::rule_room(plan)
 }
 
+// The refusal of a rule that is added.
 pub fn add_rule_refusal(plan: &[u8], body: &[u8]) -> Provisioned
     requires { ⌜ (soundOf (now plan) ≡ true) × (length (now body) ≡ RULE-BODY) ⌝ }
     ensures { λ r. ⌜ numberOfProvisioned r ≡ firstOf (addRuleLines (planOf (now (plan .entry))) (now (body .entry))) ⌝ }
@@ -110,6 +111,7 @@ fn both_there(plan: &[u8], body: &[u8]) -> bool
     changes::is_held(plan, body, SET_AT)
 }
 
+// The refusal of a rule whose set is changed.
 pub fn change_rule_refusal(plan: &[u8], body: &[u8]) -> Provisioned
     requires { ⌜ (soundOf (now plan) ≡ true) × (length (now body) ≡ RULE-BODY) ⌝ }
     ensures { λ r. ⌜ numberOfProvisioned r ≡ firstOf (changeRuleLines (planOf (now (plan .entry))) (now (body .entry))) ⌝ }
@@ -126,6 +128,7 @@ pub fn change_rule_refusal(plan: &[u8], body: &[u8]) -> Provisioned
     Provisioned::Accepted
 }
 
+// The refusal of a rule that is removed.
 pub fn remove_rule_refusal(plan: &[u8], body: &[u8]) -> Provisioned
     requires { ⌜ (soundOf (now plan) ≡ true) × (length (now body) ≡ FILTER-BYTES) ⌝ }
     ensures { λ r. ⌜ numberOfProvisioned r ≡ firstOf (removeRuleLines (planOf (now (plan .entry))) (now (body .entry))) ⌝ }

@@ -34,7 +34,7 @@ use meaning::sizes::SETS_AT;
 
 // OPENING
 
-// RANGE of an opening: its rooms and its settings.
+// Whether the rooms and the settings of an opening are in range.
 fn opening_in_range(body: &[u8]) -> bool
     requires { ⌜ length (now body) ≡ OPENING-BYTES ⌝ }
     ensures { λ r. ⌜ r ≡ (roomsInRange (openedRooms (now (body .entry))) && settingsInRange (openedSettings (now (body .entry)))) ⌝ }
@@ -45,7 +45,7 @@ fn opening_in_range(body: &[u8]) -> bool
     ranges::settings_in_range(&body[ROOMS_BYTES..OPENING_BYTES])
 }
 
-// ROOM of an opening: `size` bytes are too few for its rooms.
+// Whether `size` bytes are too few for the rooms of an opening.
 fn lacks_room(size: usize, body: &[u8]) -> bool
     requires { ⌜ length (now body) ≡ OPENING-BYTES ⌝ }
     ensures { λ r. ⌜ r ≡ lacksBytes size (openedRooms (now (body .entry))) ⌝ }
@@ -67,6 +67,7 @@ pub fn opening_refusal(size: usize, body: &[u8]) -> Provisioned
     Provisioned::Accepted
 }
 
+// An opening over any memory.
 pub fn open_known(plan: &mut [u8], body: &[u8]) -> Provisioned
     requires { ⌜ length (now body) ≡ OPENING-BYTES ⌝ }
     ensures { λ r. ⌜ Provides (calls openPlan (now (body .entry))) (now (plan .entry)) (now (plan .exit)) (numberOfProvisioned r) ⌝ }
@@ -86,7 +87,7 @@ pub fn open_known(plan: &mut [u8], body: &[u8]) -> Provisioned
 
 // THE REFUSALS
 
-// RANGE of a set that a body gives: its number is at or over the room, or its content out of range.
+// Whether the set that a body gives is out of range: its number at or over the room, or its content.
 fn out_of_range(plan: &[u8], body: &[u8]) -> bool
     requires { ⌜ (soundOf (now plan) ≡ true) × (length (now body) ≡ SET-BODY) ⌝ }
     ensures { λ r. ⌜ r ≡ (overRoom (planOf (now (plan .entry))) (setNumber (now (body .entry))) || not (contentInRange (contentGiven (now (body .entry))))) ⌝ }
@@ -97,7 +98,7 @@ fn out_of_range(plan: &[u8], body: &[u8]) -> bool
     !actions::content_in_range(content_given(body))
 }
 
-// GROUPS of a set that a body gives: its content keeps the group rules.
+// Whether the content that a body gives keeps the group rules.
 fn keeps_groups(body: &[u8]) -> bool
     requires { ⌜ length (now body) ≡ SET-BODY ⌝ }
     ensures { λ r. ⌜ r ≡ groupsHold (actionsOf (contentGiven (now (body .entry)))) ⌝ }
@@ -105,6 +106,7 @@ fn keeps_groups(body: &[u8]) -> bool
     groups::groups_hold(content_given(body))
 }
 
+// The refusal of a set that is added.
 pub fn add_set_refusal(plan: &[u8], body: &[u8]) -> Provisioned
     requires { ⌜ (soundOf (now plan) ≡ true) × (length (now body) ≡ SET-BODY) ⌝ }
     ensures { λ r. ⌜ numberOfProvisioned r ≡ firstOf (addSetLines (planOf (now (plan .entry))) (now (body .entry))) ⌝ }
@@ -156,6 +158,7 @@ fn fits_rules(plan: &[u8], body: &[u8]) -> bool
     )
 }
 
+// The refusal of a set that is replaced.
 pub fn replace_set_refusal(plan: &[u8], body: &[u8]) -> Provisioned
     requires { ⌜ (soundOf (now plan) ≡ true) × (length (now body) ≡ SET-BODY) ⌝ }
     ensures { λ r. ⌜ numberOfProvisioned r ≡ firstOf (replaceSetLines (planOf (now (plan .entry))) (now (body .entry))) ⌝ }
@@ -183,6 +186,7 @@ fn is_named(plan: &[u8], body: &[u8]) -> bool
     0 < plan::referrers(plan, plan::set_number(body, 0))
 }
 
+// The refusal of a set that is removed.
 pub fn remove_set_refusal(plan: &[u8], body: &[u8]) -> Provisioned
     requires { ⌜ (soundOf (now plan) ≡ true) × (length (now body) ≡ SET-NUMBER-BYTES) ⌝ }
     ensures { λ r. ⌜ numberOfProvisioned r ≡ firstOf (removeSetLines (planOf (now (plan .entry))) (now (body .entry))) ⌝ }

@@ -12,4 +12,10 @@ returns c =
     c .before .before .copy .ensures ∙ push-parts (g .args .s .now) (g .args .x .now) _ _ (g .pre) (u .ensures)
 
 pub push-front-spec : {M : Type 1} → statement M
-push-front-spec = tie.close (tie.spec (λ c κs. search needs) (λ c κs. search needs) (λ c. search needs) returns)
+push-front-spec =
+    tie.close
+    (tie.spec
+    (λ c κs. search needs)
+    (λ c κs. search needs)
+    (λ c. search needs)
+    returns)

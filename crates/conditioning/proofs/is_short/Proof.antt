@@ -8,7 +8,7 @@ use Rattle.meaning.specs.Actions.{casOf}
 use Rattle.meaning.specs.Conditioning.{short}
 use Rattle.actions.specs.Reading.{actionOf}
 use Rattle.actions.proofs.Reading.{stop, step}
-use Rattle.conditioning.proofs.Walk.{enough}
+use Rattle.meaning.proofs.Stretches.{enough}
 use Rattle.conditioning.proofs.is_short.Statement.{statement}
 use Rattle.conditioning.proofs.is_short.Tie as tie
 

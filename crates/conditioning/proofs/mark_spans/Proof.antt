@@ -10,7 +10,7 @@ use Rattle.meaning.specs.Conditioning.{short}
 use Rattle.actions.specs.Reading.{actionOf}
 use Rattle.actions.proofs.Reading.{stop, step}
 use Rattle.conditioning.specs.Marks.{PLACES}
-use Rattle.conditioning.proofs.Walk.{enough}
+use Rattle.meaning.proofs.Stretches.{enough}
 use Rattle.conditioning.proofs.Marking.{Marking, marking-none, marking-all, marking-more}
 use Rattle.conditioning.proofs.mark_spans.Statement.{statement}
 use Rattle.conditioning.proofs.mark_spans.Tie as tie

@@ -12,4 +12,11 @@ returns-2 : tie.Need-returns-2
 returns-2 c = takes-listed (actionOf (c .before .args .a)) (c .if1 .left)
 
 pub value-taken-spec : {M : Type 1} → statement M
-value-taken-spec = tie.close (tie.spec returns (λ c. search needs) (λ c. search needs) (λ c. search needs) returns-2)
+value-taken-spec =
+    tie.close
+    (tie.spec
+    returns
+    (λ c. search needs)
+    (λ c. search needs)
+    (λ c. search needs)
+    returns-2)

@@ -14,4 +14,12 @@ returns c =
     ap setOf (c .word .ensures .is ∙ sym (set-read (RULE-WIDTH * a .place .0) (a .rules .now)))
 
 pub set-at-spec : {M : Type 1} → statement M
-set-at-spec = tie.close (tie.spec (λ c. search needs) (λ c. search needs) (λ c. search needs) (λ c κs. search needs) (λ c. search needs) returns)
+set-at-spec =
+    tie.close
+    (tie.spec
+    (λ c. search needs)
+    (λ c. search needs)
+    (λ c. search needs)
+    (λ c κs. search needs)
+    (λ c. search needs)
+    returns)

@@ -10,4 +10,11 @@ write-requires c κs =
     record { front = front-is (b .args .p .written) (b .args .output .now); inside = b .pre .0; not-failed = b .pre .1; counted = b .pre .2 }
 
 pub hand-spec : {M : Type 1} → statement M
-hand-spec = tie.close (tie.spec (λ c. search needs) (λ c. search needs) (λ c. search needs) write-requires (λ c. search needs))
+hand-spec =
+    tie.close
+    (tie.spec
+    (λ c. search needs)
+    (λ c. search needs)
+    (λ c. search needs)
+    write-requires
+    (λ c. search needs))

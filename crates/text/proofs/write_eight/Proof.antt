@@ -24,4 +24,11 @@ returns c =
     ∙ ap (λ (x : List ℕ). writtenOver x (g .args .out .now)) (c .before .before .before .text-of-eight .ensures ∙ ap (map digitText) e)
 
 pub write-eight-spec : {M : Type 1} → statement M
-write-eight-spec = tie.close (tie.spec (λ c κs. search needs) text-of-eight-requires (λ c κs. search needs) (λ c. search needs) returns)
+write-eight-spec =
+    tie.close
+    (tie.spec
+    (λ c κs. search needs)
+    text-of-eight-requires
+    (λ c κs. search needs)
+    (λ c. search needs)
+    returns)
