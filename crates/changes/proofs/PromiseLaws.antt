@@ -1,6 +1,6 @@
 -- How a call meets its promise: it is refused by its first check, by the examiner, or by one of its own checks, or it leaves the image of what it made.
 use Prim.Native.Nat.{ℕ, zero, suc, _+_, _≤_, _<_}
-use mathlib.Core.Path.{_≡_, ap, ap₂, sym, _∙_}
+use mathlib.Core.Path.{_≡_, refl, ap, ap₂, sym, _∙_}
 use mathlib.Core.Logic.{_≢_}
 use mathlib.Core.Bool.{true, false, not}
 use mathlib.Core.List.{List, [], _∷_, _++_}
@@ -11,15 +11,15 @@ use lib.Seq.{take-take, take-all, length-take-le}
 use lib.Dec.{T, ltb, eqb}
 use borrow.Author.Tests.{lt-ltb, le-ltb, ne-eqb}
 use Rattle.meaning.specs.Basics.{if_then_else_, isZero}
-use Rattle.meaning.specs.Refusals.{CUT, PLAN, Line, firstOf}
+use Rattle.meaning.specs.Refusals.{CUT, KIND, PLAN, Line, firstOf}
 use Rattle.meaning.specs.Settings.{Rooms, roomsOf, bytesNeeded}
 use Rattle.meaning.specs.Plan.{Plan, roomsIn}
 use Rattle.meaning.specs.Calls.{Operation, Call, kindOf, bodyLength, isCut, bodyOf, lacksBytes, linesOf, refusal, made, isAccepted, OPEN-PLAN, isCall, operationOf, callOf}
-use Rattle.meaning.proofs.CallKinds.{isOpening, plan-lines, kind-of, other-call}
+use Rattle.meaning.proofs.CallKinds.{isOpening, plan-lines, not-both, kind-of, other-call}
 use Rattle.plan.specs.Layout.{image, planOf}
 use Rattle.plan.specs.State.{soundOf, stateOf, restOf}
 use Rattle.plan.proofs.ImageLaws.{state-some, state-none}
-use Rattle.changes.specs.Promise.{numberFor, memoryOf, memoryAfter, Provides, calls}
+use Rattle.changes.specs.Promise.{numberFor, memoryOf, memoryAfter, Provides, calls, Carries}
 
 -- REFUSED
 
@@ -114,3 +114,10 @@ module _ (k : ℕ) (call : isCall k ≡ true) (m b : List ℕ) (len : ℕ) (len-
 
   pub kind-longer : len ≤ length b → (after : List ℕ) (number : ℕ) → Provides (callOf k (take len b)) m after number → Provides (callOf k b) m after number
   kind-longer h after number p = longer (operationOf k) m b (rw fixed h) after number (rw fixed p)
+
+-- the call of a kind that is a call's, and of any other byte
+pub carried : {k : ℕ} {b m after : List ℕ} {number : ℕ} → isCall k ≡ true → Provides (callOf k b) m after number → Carries k b m after number
+carried c p = record { call = λ e. p; no-call = λ e. not-both e c }
+
+pub no-kind : {k : ℕ} {b m : List ℕ} → isCall k ≡ false → Carries k b m m KIND
+no-kind c = record { call = λ e. not-both c e; no-call = λ e. (refl, refl) }

@@ -1,14 +1,15 @@
 -- What opening and the six provisioning calls promise, one record for all seven, and chains of such calls on one memory.
 use Prim.Native.Nat.{ℕ}
 use mathlib.Core.Path.{_≡_}
-use mathlib.Core.Bool.{Bool}
+use mathlib.Core.Bool.{true, false}
 use mathlib.Core.List.{List, [], _∷_, _++_}
 use mathlib.Core.Option.{Option, none, some}
 use lib.ListN.{length, drop}
 use Rattle.meaning.specs.Basics.{if_then_else_}
 use Rattle.meaning.specs.Settings.{bytesNeeded}
 use Rattle.meaning.specs.Plan.{Plan, roomsIn}
-use Rattle.meaning.specs.Calls.{Operation, Call, bodyOf, lacksBytes, refusal, made, isAccepted}
+use Rattle.meaning.specs.Refusals.{KIND}
+use Rattle.meaning.specs.Calls.{Operation, Call, bodyOf, lacksBytes, refusal, made, isAccepted, isCall, callOf}
 use Rattle.plan.specs.Layout.{image}
 use Rattle.plan.specs.State.{stateOf}
 
@@ -32,6 +33,11 @@ pub record Provides (c : Call) (m after : List ℕ) (number : ℕ) : Type 0 wher
 
 abbrev pub calls : Operation → List ℕ → Call
 calls o b = record { operation = o; body = b }
+
+-- the call of a kind; a byte that is no call's is refused with KIND, "unknown kind byte"
+pub record Carries (kind : ℕ) (b m after : List ℕ) (number : ℕ) : Type 0 where
+  pub call : isCall kind ≡ true → Provides (callOf kind b) m after number
+  pub no-call : isCall kind ≡ false → (number ≡ KIND) × (after ≡ m)
 
 -- calls on one memory, each getting it as the last one left it: the memory before, the calls, the numbers answered, the memory behind them
 pub data Chain : List ℕ → List Call → List ℕ → List ℕ → Type 0 where

@@ -1,14 +1,13 @@
 // Opening a plan, and provisioning it: sets and rules added, changed and removed. There is one way in for all the calls, by kind; the public calls, for any plan bytes and any body
 // bytes, are the kinds by name.
 ghost use mathlib.Core.Path.{_≡_};
-ghost use mathlib.Core.Bool.{true};
 ghost use mathlib.Core.Option.{some};
 ghost use lib.ListN.{length};
 ghost use Rattle.meaning.specs.Refusals.{firstOf};
-ghost use Rattle.meaning.specs.Calls.{openPlan, addSet, replaceSet, removeSet, addRule, changeRule, removeRule, isCall, operationOf, callOf, lacksBytes, linesOf, made};
+ghost use Rattle.meaning.specs.Calls.{openPlan, addSet, replaceSet, removeSet, addRule, changeRule, removeRule, operationOf, callOf, lacksBytes, linesOf, made};
 ghost use Rattle.meaning.specs.Answers.{numberOfProvisioned};
 ghost use Rattle.plan.specs.Layout.{planOf};
-ghost use Rattle.changes.specs.Promise.{memoryOf, Provides, calls};
+ghost use Rattle.changes.specs.Promise.{memoryOf, Provides, Carries, calls};
 ghost use Rattle.changes.specs.Given.{KnownCall};
 use meaning::Provisioned;
 use meaning::Refusal;
@@ -62,11 +61,13 @@ pub fn change_known(plan: &mut [u8], kind: u8, body: &[u8]) -> Provisioned
 
 // OVER ANY BYTES
 
-// The call of a kind: CUT, PLAN, then the call over a known plan.
+// The call of a kind: KIND, CUT, PLAN, then the call over a known plan.
 pub fn carry_out(plan: &mut [u8], kind: u8, body: &[u8]) -> Provisioned
-    requires { ⌜ isCall kind ≡ true ⌝ }
-    ensures { λ r. ⌜ Provides (callOf kind (now (body .entry))) (now (plan .entry)) (now (plan .exit)) (numberOfProvisioned r) ⌝ }
+    ensures { λ r. ⌜ Carries kind (now (body .entry)) (now (plan .entry)) (now (plan .exit)) (numberOfProvisioned r) ⌝ }
 {
+    if !kinds::is_call(kind) {
+        return Provisioned::Refused(Refusal::Kind);
+    }
     let length = kinds::body_length(kind);
     if body.len() < length {
         return Provisioned::Refused(Refusal::Cut);

@@ -34,17 +34,12 @@ part-carry-out-end c =
     let whole = going-whole (w .before .before .before .loop .inv) (sym (w .before .is-whole .ensures) ∙ not-false _ (w .if1 .left)) in
     omega (arith, whole .fits, c .before .body-length .ensures .is)
 
-carry-out-requires : tie.Need-carry-out-requires Inv-loop μ-loop
-carry-out-requires c κs =
-    let w = c .before .before .before .before in
-    going-whole (w .before .before .before .loop .inv) (sym (w .before .is-whole .ensures) ∙ not-false _ (w .if1 .left)) .kind
-
 loop-again : tie.Need-loop-again Inv-loop μ-loop
 loop-again c =
     let ran = c .before .before .before in
     let w = ran .before .before .before .before .before in
     let whole = sym (w .before .is-whole .ensures) ∙ not-false _ (w .if1 .left) in
-    going-more (w .before .before .before .loop .inv) _ _ _ _ (omega arith) whole (ran .before .before .before .body-length .ensures .is) (ran .carry-out .ensures) (c .number .ensures)
+    going-more (w .before .before .before .loop .inv) _ _ _ _ (omega arith) whole (ran .before .before .before .body-length .ensures .is) (ran .carry-out .ensures .call (going-whole (w .before .before .before .loop .inv) whole .kind)) (c .number .ensures)
 
 returns-2 : tie.Need-returns-2 Inv-loop μ-loop
 returns-2 c = going-full (c .before .loop .inv) (omega arith)
@@ -67,7 +62,7 @@ replay-spec =
     (λ c. search needs)
     (λ c. search needs)
     part-carry-out-end
-    carry-out-requires
+    (λ c κs. search needs)
     (λ c κs. search needs)
     (λ c. search needs)
     (λ c. search needs)
