@@ -6,6 +6,7 @@ pub mod Largest
 pub mod RuleLists
 pub mod Choice
 pub mod View
+pub mod Serving
 pub mod Stretches
 pub mod ConditionedNumber
 pub mod Soundness

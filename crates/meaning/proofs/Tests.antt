@@ -62,6 +62,11 @@ pub not-not : (a : Bool) → T (not (not a)) → T a
 not-not true t = tt
 not-not false t = t
 
+-- what holds of both holds of the one taken
+pub either : {A : Type 0} (P : A → Type 0) (b : Bool) (x y : A) → P x → P y → P (if b then x else y)
+either P true x y s t = s
+either P false x y s t = t
+
 -- two tests that hold together are equal
 pub same-tests : (a b : Bool) → (T a → T b) → (T b → T a) → a ≡ b
 same-tests true true f g = refl

@@ -15,6 +15,7 @@ use Rattle.meaning.specs.Answer.{Answer, answer}
 use Rattle.meaning.specs.Reads.{Count, referrerCount, Listed, listing}
 use Rattle.meaning.specs.Calls.{NUMBER, REFS, LIST, isKind, isCall, bodyLength, refusal, after, callOf}
 use Rattle.meaning.specs.Records.{House, withPlan, decimal, digitsText, prefixText, lengthText, line, okLine, noLine, acceptedLine, numberLine, refsLine, listedLine, listedLines, endLine, listText, lacksProgramRoom, recordText, recordHouse}
+use Rattle.meaning.proofs.Tests.{either}
 use Rattle.plan.specs.State.{stateOf}
 use Rattle.changes.specs.Promise.{memoryOf}
 use Rattle.text.specs.Writes.{LONGEST}
@@ -24,7 +25,6 @@ use Rattle.record.specs.Promises.{houseOf, textOf, houseAfter, StepPromise}
 use Rattle.record.specs.declared.Line.{Line}
 use Rattle.record.specs.declared.Stepped.{Stepped}
 use Rattle.record.specs.declared.Stepped.the-variants.{Wrote}
-use Rattle.record.proofs.AnswerFacts.{either}
 
 behind : (xs ys : List ℕ) → 1 ≤ length ys → 1 ≤ length (xs ++ ys)
 behind xs ys h = rw (length-append xs ys) (omega (arith, h))

@@ -20,7 +20,8 @@ use Rattle.meaning.specs.Conditioning.{short, stretchOf, digitsAt, valueFrom}
 use Rattle.meaning.specs.Services.{Stage, atStart, responded, inprtg, rnSet, cdpnnp, asdlkup, grnlkup, cdial, carryOut, serve, valueToSend, join}
 use Rattle.meaning.specs.Plan.{Plan, settingsIn, contentRules, contentPasses}
 use Rattle.meaning.specs.Answer.{NO-RULE, ESCAPED, RESPONDED, UNCHANGED, FORMATTED, Answer, refused, unserved, served, outgoingClass, formatted, afterServices, answerBy, answerWith, answerUnder, answerOf}
-use Rattle.meaning.proofs.Tests.{and-left, and-right, and-both, each-all, all-at, all-take, all-drop}
+use Rattle.meaning.proofs.Tests.{and-left, and-right, and-both, either, each-all, all-at, all-take, all-drop}
+use Rattle.meaning.proofs.Serving.{by-code}
 use Rattle.meaning.proofs.Choice.{Choice, noRule, theRule, choice}
 use Rattle.meaning.proofs.Soundness.{Sound, names-held}
 
@@ -34,11 +35,6 @@ pub record Printable (a : Answer) : Type 0 where
   pub refused : a .refusal ≢ 0 → a .digits ≡ []
 
 -- TESTS AND LISTS
-
--- what holds of both holds of the one taken
-pub either : {A : Type 0} (P : A → Type 0) (b : Bool) (x y : A) → P x → P y → P (if b then x else y)
-either P true x y s t = s
-either P false x y s t = t
 
 module _ {A : Type 0} (p : A → Bool) where
   all-append : (xs ys : List A) → T (all p xs) → T (all p ys) → T (all p (xs ++ ys))
@@ -202,20 +198,14 @@ module _ (settings : Settings) (lookup : Lookup) (fas : List ℕ) (sf : Settings
         (either Digits (eqb (lookup .kind) 3 && (not (isEmpty (settings .dfltrn)) && contains RN fas)) (settings .dfltrn) (s .rn) (sf .dfltrn) (k .rn))
 
     carried-fine : (c : ℕ) → StageFine (n + 1) (carryOut settings lookup fas c s)
-    unfolding carryOut inprtg cdpnnp asdlkup grnlkup cdial
-    carried-fine c = go (eqb c INPRTG) (eqb c CDPNNP) (eqb c ASDLKUP) (eqb c GRNLKUP)
-      where
-        go : (i d a g : Bool)
-            → StageFine (n + 1)
-            (if i then inprtg settings lookup fas s else
-            if d then cdpnnp settings lookup fas s else
-            if a then asdlkup settings lookup fas s else
-            if g then grnlkup settings lookup fas s else cdial settings lookup fas s)
-        go true d a g = with-values INPRTG _ _ _ _ _ _ (four-at (settings .answers) (lookup .kind) (sf .answers)) (k .rn) (k .sp) (k .asd) (k .grn)
-        go false true a g = with-values CDPNNP _ _ _ _ _ _ (k .response) rn-digits (either Digits (eqb (lookup .kind) 3) (lookup .entity) (s .sp) (lf .entity) (k .sp)) (k .asd) (k .grn)
-        go false false true g = with-values ASDLKUP _ _ _ _ _ _ (k .response) (k .rn) (k .sp) (either Digits (isEmpty (lookup .asd)) (s .asd) (lookup .asd) (k .asd) (lf .asd)) (k .grn)
-        go false false false true = with-values GRNLKUP _ _ _ _ _ _ (k .response) (k .rn) (k .sp) (k .asd) (either Digits (isEmpty (lookup .grn)) (s .grn) (lookup .grn) (k .grn) (lf .grn))
-        go false false false false = with-values CDIAL _ _ _ _ _ _ (k .response) (k .rn) (k .sp) (k .asd) (k .grn)
+    unfolding inprtg cdpnnp asdlkup grnlkup cdial
+    carried-fine c =
+        by-code settings lookup fas (StageFine (n + 1)) c s
+        (with-values INPRTG _ _ _ _ _ _ (four-at (settings .answers) (lookup .kind) (sf .answers)) (k .rn) (k .sp) (k .asd) (k .grn))
+        (with-values CDPNNP _ _ _ _ _ _ (k .response) rn-digits (either Digits (eqb (lookup .kind) 3) (lookup .entity) (s .sp) (lf .entity) (k .sp)) (k .asd) (k .grn))
+        (with-values ASDLKUP _ _ _ _ _ _ (k .response) (k .rn) (k .sp) (either Digits (isEmpty (lookup .asd)) (s .asd) (lookup .asd) (k .asd) (lf .asd)) (k .grn))
+        (with-values GRNLKUP _ _ _ _ _ _ (k .response) (k .rn) (k .sp) (k .asd) (either Digits (isEmpty (lookup .grn)) (s .grn) (lookup .grn) (k .grn) (lf .grn)))
+        (with-values CDIAL _ _ _ _ _ _ (k .response) (k .rn) (k .sp) (k .asd) (k .grn))
 
   serve-fine : (cs : List ℕ) (n : ℕ) (s : Stage) → StageFine n s → StageFine (n + length cs) (serve settings lookup fas cs s)
   serve-fine [] n s k = stage-more n (n + 0) s (omega arith) k
