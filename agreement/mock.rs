@@ -48,7 +48,7 @@ fn sound(memory: &[u8]) -> bool {
     let mut copy = memory.to_vec();
     if cfg!(fault_1) && copy.len() >= 64 {
         // The unused bytes at the header's end are not looked at.
-        copy[48..64].fill(0);
+        copy[layout::ACCEPTING_AT + 1..64].fill(0);
     }
     if cfg!(fault_2) {
         // The size asked is a byte too large.
@@ -66,6 +66,14 @@ fn sound(memory: &[u8]) -> bool {
                 copy[at] = 1;
             }
         }
+    }
+    if cfg!(fault_38) && copy.get(layout::ACCEPTING_AT) == Some(&2) {
+        // 2 is taken for a value of accepting.
+        copy[layout::ACCEPTING_AT] = 1;
+    }
+    if cfg!(fault_42) && copy.starts_with(b"NPP1") {
+        // The mark of the layout before is taken.
+        copy[..4].copy_from_slice(b"NPP2");
     }
     calls::sound(&copy)
 }
@@ -115,6 +123,10 @@ fn provision(kind: Kind, memory: &mut [u8], body: &[u8]) -> u8 {
         // A longer body is refused.
         return 1;
     }
+    if cfg!(fault_43) && kind == Kind::Open && body.len() == bodies::ACCEPTING_AT {
+        // An opening without accepting is taken, as before.
+        return calls::refusal_number(call(memory, &[body, &[0]].concat()));
+    }
     let number = calls::refusal_number(call(memory, body));
     match (kind, number, whole) {
         (Kind::Open, 5, Some(body)) if cfg!(fault_5) => {
@@ -123,6 +135,12 @@ fn provision(kind: Kind, memory: &mut [u8], body: &[u8]) -> u8 {
             if memory.len() < 64 + 48 * two(0) + 24 * two(2) {
                 return 4;
             }
+        }
+        (Kind::Open, 5, Some(body)) if cfg!(fault_37) && body[bodies::ACCEPTING_AT] == 2 => {
+            // 2 is taken for a value of accepting.
+            let mut body = body.to_vec();
+            body[bodies::ACCEPTING_AT] = 1;
+            return calls::refusal_number(call(memory, &body));
         }
         (Kind::Open, 0, _) if cfg!(fault_6) => {
             // A byte behind the size is cleared.
@@ -228,7 +246,20 @@ fn chosen<'a>(plan: &'a Plan, number: &Number) -> Option<(&'a Filter, &'a Action
     Some((filter, &plan.sets[&set]))
 }
 
+/// The answer of another plan to another number.
+fn answer_of(plan: &Plan, number: &Number, out: &mut [u8]) -> Answered {
+    let mut body = Vec::new();
+    bodies::put_number(&mut body, number);
+    calls::answer(&layout::encode(plan), &body, out)
+}
+
 fn answered(plan: &[u8], body: &[u8], out: &mut [u8]) -> Answered {
+    let mut copy = plan.to_vec();
+    if cfg!(fault_41) && copy.get(layout::ACCEPTING_AT) == Some(&2) {
+        // A memory with 2 for accepting is answered.
+        copy[layout::ACCEPTING_AT] = 1;
+    }
+    let plan = &copy[..];
     if cfg!(fault_16) && out.len() == 34 {
         // A buffer of 34 is taken where the digits find room.
         let mut longer = [0; 35];
@@ -240,7 +271,7 @@ fn answered(plan: &[u8], body: &[u8], out: &mut [u8]) -> Answered {
     let before = out.to_vec();
     let given = calls::answer(plan, body, out);
     let whole = body.get(..bodies::NUMBER);
-    let (Some(plan), Some(number)) = (
+    let (Some(mut plan), Some(mut number)) = (
         layout::decode(plan),
         whole.and_then(|body| bodies::number(body).ok()),
     ) else {
@@ -290,13 +321,11 @@ fn answered(plan: &[u8], body: &[u8], out: &mut [u8]) -> Answered {
         let routing = &plan.settings.default_routing;
         if !routing.is_empty() {
             out.copy_from_slice(&before);
-            let mut body = Vec::new();
             let lookup = Lookup {
                 entity: routing,
                 ..number.lookup
             };
-            bodies::put_number(&mut body, &Number { lookup, ..number });
-            return calls::answer(&layout::encode(&plan), &body, out);
+            return answer_of(&plan, &Number { lookup, ..number }, out);
         }
     }
     if cfg!(fault_22) && given.refusal > 0 {
@@ -318,7 +347,33 @@ fn answered(plan: &[u8], body: &[u8], out: &mut [u8]) -> Answered {
         // A refused answer leaves a digit in the buffer.
         out[0] = number.digits[0];
     }
-    given
+    let kind = number.lookup.kind;
+    let settings = &mut plan.settings;
+    let routing = settings.default_routing.clone();
+    if cfg!(fault_35) && settings.accepting && kind == LookupKind::NoRecord {
+        // No record is a success too.
+        number.lookup.kind = LookupKind::NoEntity;
+        settings.answers[1] = settings.answers[0];
+    } else if cfg!(fault_36) {
+        // Accepting is ignored.
+        settings.accepting = false;
+    } else if cfg!(fault_39)
+        && settings.accepting
+        && kind == LookupKind::NoEntity
+        && !routing.is_empty()
+    {
+        // DFLTRN is sent for a record without entity.
+        number.lookup.kind = LookupKind::RoutingNumber;
+        number.lookup.entity = &routing;
+        settings.answers[2] = settings.answers[1];
+    } else if cfg!(fault_40) {
+        // Accepting is read a place early: the last of the four answers.
+        settings.accepting = settings.answers[3] == Response::Relay;
+    } else {
+        return given;
+    }
+    out.copy_from_slice(&before);
+    answer_of(&plan, &number, out)
 }
 
 /// # Safety

@@ -65,7 +65,7 @@ static void expect_ok(const char *call, uint8_t refusal)
     }
 }
 
-/* Country code 55, no DFLTRN, no delimiters, RELAY for every lookup kind. */
+/* Country code 55, no DFLTRN, no delimiters, RELAY for every lookup kind, accepting 0. */
 static uint8_t open_plan(void)
 {
     uint8_t body[NPP_OPEN_BYTES] = {0};

@@ -10,10 +10,10 @@
  * It allocates nothing and keeps nothing between calls: a plan is the memory that the caller lends.
  *
  * WHAT IS PROVED. Each call below is proved to end, and to give and to write exactly what document 01
- * defines, for any content and any length of what is lent. The promise of a call stands behind
- * `ensures` in crates/capi/src/lib.rt; docs/PROMISES.md gives the place of every proof, docs/LAYOUT.md
- * every byte of the plan memory, docs/DECISIONS.md how document 01 is read where it is open. This file
- * says the same in words. It is not proved itself.
+ * defines, with C-12 of document 02, for any content and any length of what is lent. The promise of a
+ * call stands behind `ensures` in crates/capi/src/lib.rt; docs/PROMISES.md gives the place of every
+ * proof, docs/LAYOUT.md every byte of the plan memory, docs/DECISIONS.md how the two documents are read
+ * where they are open. This file says the same in words. It is not proved itself.
  *
  * WHAT A CALLER OWES.
  * - A pointer and the length behind it are those of memory that the caller may lend: to be read, and to
@@ -146,7 +146,7 @@
  * A body may be lent with more bytes behind it: they are not looked at.
  */
 
-#define NPP_OPEN_BYTES 40       /* npp_open */
+#define NPP_OPEN_BYTES 41       /* npp_open */
 #define NPP_SET_BYTES 47        /* npp_add_set, npp_replace_set */
 #define NPP_SET_NUMBER_BYTES 2  /* npp_remove_set */
 #define NPP_RULE_BYTES 21       /* npp_add_rule, npp_change_rule */
@@ -161,6 +161,7 @@
 #define NPP_OPEN_DELIMITER_A_AT 24 /* 1+5 */
 #define NPP_OPEN_DELIMITER_B_AT 30 /* 1+5 */
 #define NPP_OPEN_ANSWERS_AT 36     /* 4: INPRTG's answers for the lookup kinds 0, 1, 2, 3 */
+#define NPP_OPEN_ACCEPTING_AT 40   /* 1: 0, or 1 for success of CDPNNP on lookup kind 1, with RN and SP empty */
 
 /* Where the fields of a set stand; the body of a removal is its number alone. */
 #define NPP_SET_NUMBER_AT 0 /* 2 */
@@ -283,7 +284,7 @@ bool npp_sound(const uint8_t *memory, size_t memory_bytes);
  * rooms and settings of the body, no set and no rule. A refused one leaves the old plan in force.
  *
  * Refusals, in order:
- *   1 CUT    body_bytes is under 40
+ *   1 CUT    body_bytes is under 41
  *   5 RANGE  a field is out of range, or an unused byte is not 0
  *   4 ROOM   plan_bytes is under NPP_PLAN_BYTES of the rooms asked
  */

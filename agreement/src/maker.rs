@@ -18,6 +18,9 @@ pub struct Maker {
 /// The wrong values that a byte is changed to.
 pub const WRONG: usize = 7;
 
+/// The mark of the layout before.
+pub const OLD_MARK: &[u8] = b"NPP1";
+
 impl Maker {
     pub fn new(mut random: Random) -> Maker {
         let digits = random.between(2, 4);
@@ -70,6 +73,7 @@ impl Maker {
             delimiter_b: self.digits_or_none(60, 5),
             answers: [(); 4]
                 .map(|()| Response::from_byte(self.random.pick(&answers)).expect("an answer")),
+            accepting: self.random.percent(50),
         }
     }
 
@@ -472,6 +476,33 @@ impl Maker {
         ])
     }
 
+    /// Changes some bytes of a body, or puts a wrong value of accepting into an
+    /// opening.
+    pub fn damage_body(&mut self, kind: Kind, body: &mut [u8]) {
+        match kind {
+            Kind::Open if self.random.percent(70) => {
+                body[bodies::ACCEPTING_AT] = self.wrong_accepting();
+            }
+            _ => self.mutate(body),
+        }
+    }
+
+    /// Changes some bytes of a plan's memory, or puts a wrong value of
+    /// accepting or the mark of the layout before into it.
+    pub fn damage_memory(&mut self, memory: &mut [u8]) {
+        match self.random.below(10) {
+            0..=2 => memory[layout::ACCEPTING_AT] = self.wrong_accepting(),
+            3 => memory[..OLD_MARK.len()].copy_from_slice(OLD_MARK),
+            _ => self.mutate(memory),
+        }
+    }
+
+    /// Neither 0 nor 1.
+    pub fn wrong_accepting(&mut self) -> u8 {
+        let any = self.random.between(2, 255) as u8;
+        self.random.weighted(&[(3, 2), (3, 255), (2, any)])
+    }
+
     /// Changes one or two bytes.
     pub fn mutate(&mut self, bytes: &mut [u8]) {
         if bytes.is_empty() {
@@ -614,7 +645,7 @@ impl Maker {
     /// The body of a number.
     pub fn number(&mut self, plan: Option<&Plan>) -> Vec<u8> {
         let (class, digits) = self.class_and_digits(plan);
-        let kinds = [(3, 0), (2, 1), (5, 2), (5, 3)];
+        let kinds = [(3, 0), (5, 1), (4, 2), (4, 3)];
         let kind = LookupKind::from_byte(self.random.weighted(&kinds)).expect("a lookup kind");
         let entity = match kind {
             LookupKind::NoRecord | LookupKind::NoEntity => Vec::new(),

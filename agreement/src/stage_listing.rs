@@ -124,7 +124,7 @@ fn listing(bench: &mut Bench, place: usize) {
     }
     for _ in 0..6 {
         let mut damaged = bytes.clone();
-        maker.mutate(&mut damaged[..size]);
+        maker.damage_memory(&mut damaged[..size]);
         let damaged = Lent::new(&damaged, &mut maker.random);
         rule_count(bench, &damaged);
         let place = maker.random.below(usize::from(count) + 2) as u16;
@@ -151,7 +151,7 @@ fn replays(bench: &mut Bench, place: usize) {
         _ => {
             // Damaged, or a part.
             let mut content = maker.memory_by_calls(rooms, 20, behind);
-            maker.mutate(&mut content);
+            maker.damage_memory(&mut content);
             content
         }
     };
@@ -212,7 +212,7 @@ fn file(maker: &mut Maker, memory: &[u8], rooms: Rooms) -> (Vec<u8>, usize) {
         };
         let mut body = maker.body(kind, plan.as_ref(), asked);
         if maker.random.percent(5) {
-            maker.mutate(&mut body);
+            maker.damage_body(kind, &mut body);
         }
         list.push(kind.byte());
         list.extend(&body);

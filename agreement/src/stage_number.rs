@@ -8,7 +8,7 @@ use crate::maker::Maker;
 use crate::random::Random;
 use npp_reference::layout;
 use npp_reference::plan::Plan;
-use npp_reference::rules::{Rooms, SetNumber};
+use npp_reference::rules::{Refusal, Rooms, SetNumber};
 use npp_reference::{bodies, calls};
 
 const STAGE: &str = "number";
@@ -30,10 +30,11 @@ const OUTCOMES: [&str; 5] = [
 ];
 
 const STRETCH: &str = "a stretch with digits";
+const DECIDED: &str = "answers that accepting decides";
 
 pub fn run(bench: &mut Bench) {
     bench.enter(STAGE, &CALLS, &OUTCOMES);
-    bench.enter(STAGE, &[], &[STRETCH]);
+    bench.enter(STAGE, &[], &[STRETCH, DECIDED]);
     for place in 0..bench.scaled(1300, 20) {
         plan_by_chance(bench, place);
     }
@@ -46,7 +47,7 @@ pub fn run(bench: &mut Bench) {
     largest(bench);
     bench.demand_numbers(&[0, 1, 3, 4, 5, 8, 12, 13], 1000);
     bench.demand_notes(&OUTCOMES, 1000);
-    bench.demand_notes(&[STRETCH], 1000);
+    bench.demand_notes(&[STRETCH, DECIDED], 1000);
 }
 
 // ---------------------------------------------------------------------------
@@ -72,6 +73,13 @@ fn answer(bench: &mut Bench, plan: &Lent, body: &Lent, mut out: Lent) {
     bench.count("answer", reference.refusal);
     if reference.refusal == 0 {
         bench.note(OUTCOMES[usize::from(reference.outcome)], 1);
+    }
+    if [0, Refusal::Long.number()].contains(&reference.refusal) {
+        // Held against the answer under the other value.
+        let mut other = plan.slice().to_vec();
+        other[layout::ACCEPTING_AT] ^= 1;
+        let otherwise = calls::answer(&other, body.slice(), before[2].clone().slice_mut());
+        bench.note(DECIDED, u64::from(otherwise != given));
     }
 }
 
@@ -271,7 +279,7 @@ fn plan_by_chance(bench: &mut Bench, place: usize) {
             0..=4 => {
                 let mut damaged = bytes.clone();
                 let end = maker.random.pick(&[64, size, size]);
-                maker.mutate(&mut damaged[..end]);
+                maker.damage_memory(&mut damaged[..end]);
                 let damaged = Lent::new(&damaged, &mut maker.random);
                 ask(bench, &mut maker, &damaged, Some(&plan));
             }

@@ -3,9 +3,10 @@
 use crate::bench::{hex, Bench};
 use crate::c;
 use crate::lent::Lent;
-use crate::maker::Maker;
+use crate::maker::{Maker, OLD_MARK};
 use crate::random::Random;
 use npp_reference::bodies;
+use npp_reference::plan::Plan;
 use npp_reference::rules::Rooms;
 use npp_reference::{calls, layout};
 
@@ -15,6 +16,7 @@ const SEVERAL: &str = "plans with several sets and rules";
 const SOUND: &str = "sound";
 const UNSOUND: &str = "not sound";
 const STILL_SOUND: &str = "a byte of the size changed, still sound";
+const BY_ACCEPTING: &str = "not sound by accepting alone";
 
 /// Rooms of the plans whose every byte is changed in turn, then others.
 const ROOMS: [(u16, u16); 24] = [
@@ -44,6 +46,9 @@ const ROOMS: [(u16, u16); 24] = [
     (3, 4096),
 ];
 
+const HEADER: usize = 64;
+const OPENING_AT: usize = layout::ACCEPTING_AT - bodies::ACCEPTING_AT;
+
 /// The bytes behind each plan.
 const BEHIND: usize = 8;
 
@@ -51,7 +56,8 @@ const BEHIND: usize = 8;
 const SWEPT: usize = 1300;
 
 pub fn run(bench: &mut Bench) {
-    bench.enter(STAGE, &["sound"], &[SEVERAL, SOUND, UNSOUND, STILL_SOUND]);
+    let notes = [SEVERAL, SOUND, UNSOUND, STILL_SOUND, BY_ACCEPTING];
+    bench.enter(STAGE, &["sound"], &notes);
     let plans = bench.scaled(ROOMS.len(), ROOMS.len());
     let mut sweeps = bench.scaled(17, 4);
     for place in 0..plans {
@@ -76,7 +82,7 @@ pub fn run(bench: &mut Bench) {
     }
     any_memories(bench);
     bench.demand_notes(&[SOUND, UNSOUND], 1000);
-    bench.demand_notes(&[STILL_SOUND], 200);
+    bench.demand_notes(&[STILL_SOUND, BY_ACCEPTING], 200);
     bench.demand_notes(&[SEVERAL], 20);
 }
 
@@ -106,6 +112,12 @@ pub fn verdict(bench: &mut Bench, memory: &Lent) -> bool {
     bench.count("sound", 0);
     let sound = reference == 1;
     bench.note(if sound { SOUND } else { UNSOUND }, 1);
+    let accepting = before.slice().get(layout::ACCEPTING_AT);
+    if accepting.is_some_and(|&byte| byte > 1) {
+        let mut mended = before.slice().to_vec();
+        mended[layout::ACCEPTING_AT] = 0;
+        bench.note(BY_ACCEPTING, u64::from(calls::sound(&mended)));
+    }
     sound
 }
 
@@ -120,7 +132,7 @@ fn every_byte(bench: &mut Bench, maker: &mut Maker, memory: &Lent, size: usize) 
 /// The whole header, and bytes by chance.
 fn some_bytes(bench: &mut Bench, maker: &mut Maker, memory: &Lent, size: usize) {
     let mut memory = memory.clone();
-    for place in 0..64 {
+    for place in 0..HEADER {
         changed_byte(bench, maker, &mut memory, place, size);
     }
     for _ in 0..50 {
@@ -168,11 +180,12 @@ fn some_lengths(bench: &mut Bench, maker: &mut Maker, memory: &[u8], size: usize
 }
 
 /// Changes that keep the shape of a plan: slots exchanged, repeated, cleared
-/// or made anew, the count and the rooms moved.
+/// or made anew, the count and the rooms moved, other settings, a wrong
+/// value of accepting, the mark of the layout before.
 fn rebuilt(bench: &mut Bench, maker: &mut Maker, memory: &[u8], rooms: Rooms) {
     let (sets, rules) = (usize::from(rooms.sets), usize::from(rooms.rules));
-    let set_at = |number: usize| 64 + 48 * number;
-    let rule_at = |place: usize| 64 + 48 * sets + 24 * place;
+    let set_at = |number: usize| HEADER + 48 * number;
+    let rule_at = |place: usize| HEADER + 48 * sets + 24 * place;
     for _ in 0..250 {
         let mut bytes = memory.to_vec();
         for _ in 0..maker.random.weighted(&[(6, 1), (2, 2)]) {
@@ -182,7 +195,7 @@ fn rebuilt(bench: &mut Bench, maker: &mut Maker, memory: &[u8], rooms: Rooms) {
                 maker.random.below(held.max(1)),
             );
             let number = maker.random.below(sets.min(40));
-            match maker.random.below(14) {
+            match maker.random.below(16) {
                 0 => exchange(&mut bytes, rule_at(one), rule_at(other), 24),
                 1 => bytes.copy_within(rule_at(one)..rule_at(one) + 24, rule_at(other)),
                 2 => bytes[rule_at(one)..rule_at(one) + 24].fill(0),
@@ -232,12 +245,14 @@ fn rebuilt(bench: &mut Bench, maker: &mut Maker, memory: &[u8], rooms: Rooms) {
                 }
                 12 => {
                     // Other rooms over the same bytes.
-                    let at = 8 + maker.random.below(4);
+                    let at = OPENING_AT + maker.random.below(4);
                     bytes[at] = bytes[at].wrapping_add(maker.random.pick(&[1, 255]));
                 }
+                13 => bytes[layout::ACCEPTING_AT] = maker.wrong_accepting(),
+                14 => bytes[..OLD_MARK.len()].copy_from_slice(OLD_MARK),
                 _ => {
                     let opening = maker.opening(rooms);
-                    bytes[8..48].copy_from_slice(&opening);
+                    bytes[OPENING_AT..][..opening.len()].copy_from_slice(&opening);
                 }
             }
         }
@@ -268,12 +283,10 @@ fn any_memories(bench: &mut Bench) {
             1 => maker.random.bytes(length).iter().map(|b| b % 3).collect(),
             _ => maker.random.bytes(length),
         };
-        if bytes.len() >= 64 && maker.random.percent(70) {
-            bytes[..8].copy_from_slice(b"NPP1\0\0\0\0");
+        if bytes.len() >= HEADER && maker.random.percent(70) {
             let rooms = maker.small_rooms();
-            let opening = maker.opening(rooms);
-            bytes[8..48].copy_from_slice(&opening);
-            bytes[48..64].fill(0);
+            let plan = Plan::open(&maker.opening(rooms)).expect("an opening in range");
+            bytes[..HEADER].copy_from_slice(&layout::encode(&plan)[..HEADER]);
             if maker.random.percent(30) {
                 put_count(&mut bytes, maker.random.below(4));
             }

@@ -35,11 +35,14 @@ const NAMES: [&str; 7] = [
 
 const LIST: usize = 500;
 
+const BY_ACCEPTING: &str = "openings out of range by accepting alone";
+
 pub fn run(bench: &mut Bench) {
-    bench.enter(STAGE, &NAMES, &[]);
+    bench.enter(STAGE, &NAMES, &[BY_ACCEPTING]);
     for place in 0..bench.scaled(210, 20) {
         list(bench, place);
     }
+    openings(bench);
     small_sets(bench);
     ranges(bench);
     fits(bench);
@@ -51,6 +54,7 @@ pub fn run(bench: &mut Bench) {
     }
     largest(bench);
     bench.demand_numbers(&[0, 1, 3, 4, 5, 6, 7, 8, 9, 10, 11], 50);
+    bench.demand_notes(&[BY_ACCEPTING], 1000);
 }
 
 /// One call on which both agree; its number.
@@ -74,12 +78,17 @@ pub fn provision(bench: &mut Bench, kind: Kind, memory: &mut Lent, body: &Lent) 
     ];
     bench.agree(name, lines, &library, &reference, &lent);
     bench.count(name, reference);
+    if kind == Kind::Open && reference == Refusal::Range.number() {
+        let mut mended = body.slice()[..bodies::OPENING].to_vec();
+        mended[bodies::ACCEPTING_AT] = 0;
+        bench.note(BY_ACCEPTING, u64::from(bodies::opening(&mended).is_ok()));
+    }
     reference
 }
 
 /// Mostly the body as it is; else cut with the rest behind it, lengthened,
 /// or damaged.
-fn loosely(maker: &mut Maker, mut body: Vec<u8>) -> Lent {
+fn loosely(maker: &mut Maker, kind: Kind, mut body: Vec<u8>) -> Lent {
     let random = &mut maker.random;
     match random.below(40) {
         0 => {
@@ -102,7 +111,7 @@ fn loosely(maker: &mut Maker, mut body: Vec<u8>) -> Lent {
             Lent::new(&bytes, random)
         }
         7..=9 => {
-            maker.mutate(&mut body);
+            maker.damage_body(kind, &mut body);
             Lent::new(&body, &mut maker.random)
         }
         _ => Lent::new(&body, random),
@@ -148,7 +157,7 @@ fn list(bench: &mut Bench, place: usize) {
             None => rooms,
         };
         let body = maker.body(kind, plan.as_ref(), asked);
-        let body = loosely(&mut maker, body);
+        let body = loosely(&mut maker, kind, body);
         if provision(bench, kind, &mut memory, &body) == 0 {
             plan = layout::decode(memory.slice());
             assert!(plan.is_some(), "an accepted call leaves a sound plan");
@@ -160,12 +169,36 @@ fn list(bench: &mut Bench, place: usize) {
 fn damaged(bench: &mut Bench, maker: &mut Maker, memory: &Lent, plan: Option<&Plan>, rooms: Rooms) {
     let mut memory = memory.clone();
     let end = maker.random.pick(&[64, layout::size(rooms)]);
-    maker.mutate(&mut memory.slice_mut()[..end]);
+    maker.damage_memory(&mut memory.slice_mut()[..end]);
     for _ in 0..maker.random.between(1, 3) {
         let kind = maker.random.pick(&KINDS);
         let body = maker.body(kind, plan, rooms);
-        let body = loosely(maker, body);
+        let body = loosely(maker, kind, body);
         provision(bench, kind, &mut memory, &body);
+    }
+}
+
+/// Openings over a plan, with any rooms and wrong values of accepting; then
+/// with each of its values.
+fn openings(bench: &mut Bench) {
+    bench.part = "openings".to_string();
+    let mut maker = Maker::new(Random::of(bench.seed, "openings", 0));
+    let rooms = Rooms { sets: 4, rules: 6 };
+    let bytes = maker.memory_by_calls(rooms, 20, 5);
+    for _ in 0..bench.scaled(4000, 400) {
+        let asked = maker.other_rooms(rooms);
+        let mut body = maker.opening(asked);
+        body[bodies::ACCEPTING_AT] = maker.wrong_accepting();
+        let body = loosely(&mut maker, Kind::Open, body);
+        let mut memory = Lent::new(&bytes, &mut maker.random);
+        provision(bench, Kind::Open, &mut memory, &body);
+    }
+    for value in 0..=255 {
+        let mut body = maker.opening(rooms);
+        body[bodies::ACCEPTING_AT] = value;
+        let body = Lent::new(&body, &mut maker.random);
+        let mut memory = Lent::new(&bytes, &mut maker.random);
+        provision(bench, Kind::Open, &mut memory, &body);
     }
 }
 

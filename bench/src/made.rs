@@ -212,6 +212,7 @@ fn settings() -> Settings {
             Response::Relay,
             Response::Connect,
         ],
+        accepting: false,
     }
 }
 

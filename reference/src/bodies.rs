@@ -1,5 +1,5 @@
-//! The bodies of house records (document 01, 'House records'): bytes to
-//! values with the RANGE check of every field, and values to bytes.
+//! The bodies of house records (document 01, 'House records', and C-12): bytes
+//! to values with the RANGE check of every field, and values to bytes.
 
 use crate::rules::*;
 use std::ops::RangeInclusive;
@@ -60,7 +60,9 @@ impl Kind {
     }
 }
 
-pub const OPENING: usize = 40;
+pub const OPENING: usize = 41;
+/// The last byte of an opening.
+pub const ACCEPTING_AT: usize = OPENING - 1;
 pub const SET: usize = 47;
 pub const CONTENT: usize = SET - 2;
 pub const RULE: usize = 21;
@@ -117,6 +119,14 @@ impl<'a> Fields<'a> {
         Ok(digits)
     }
 
+    fn zero_or_one(&mut self) -> Checked<bool> {
+        match self.byte() {
+            0 => Ok(false),
+            1 => Ok(true),
+            _ => Err(Refusal::Range),
+        }
+    }
+
     fn class(&mut self) -> Checked<Class> {
         Class::from_byte(self.byte()).ok_or(Refusal::Range)
     }
@@ -151,7 +161,7 @@ pub fn all_zero(bytes: &[u8]) -> bool {
     bytes.iter().all(|&byte| byte == 0)
 }
 
-/// The 40 bytes of an opening.
+/// The 41 bytes of an opening.
 pub fn opening(body: &[u8]) -> Checked<(Rooms, Settings)> {
     let mut fields = Fields::of(body);
     let sets = fields.two_bytes_within(1..=1024)?;
@@ -164,12 +174,14 @@ pub fn opening(body: &[u8]) -> Checked<(Rooms, Settings)> {
     for answer in &mut answers {
         *answer = Response::from_byte(fields.byte()).ok_or(Refusal::Range)?;
     }
+    let accepting = fields.zero_or_one()?;
     let settings = Settings {
         country_code,
         default_routing,
         delimiter_a,
         delimiter_b,
         answers,
+        accepting,
     };
     Ok((Rooms { sets, rules }, settings))
 }
@@ -276,6 +288,7 @@ pub fn put_opening(bytes: &mut Vec<u8>, rooms: Rooms, settings: &Settings) {
     put_digits(bytes, DELIMITER, &settings.delimiter_a);
     put_digits(bytes, DELIMITER, &settings.delimiter_b);
     bytes.extend(settings.answers.iter().map(|&answer| answer as u8));
+    bytes.push(u8::from(settings.accepting));
 }
 
 pub fn put_set_number(bytes: &mut Vec<u8>, number: SetNumber) {

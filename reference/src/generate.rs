@@ -88,6 +88,8 @@ struct Maker {
     small: usize,
     /// The bytes that an opening's rooms should mostly find room in.
     memory: usize,
+    /// How often each lookup kind comes up.
+    lookups: [(usize, LookupKind); 4],
 }
 
 impl Maker {
@@ -103,6 +105,12 @@ impl Maker {
             most_rules: 512,
             small: 80,
             memory: usize::MAX,
+            lookups: [
+                (3, LookupKind::NoRecord),
+                (5, LookupKind::NoEntity),
+                (4, LookupKind::RoutingNumber),
+                (4, LookupKind::ServiceProvider),
+            ],
         }
     }
 
@@ -199,7 +207,8 @@ impl Maker {
         if self.random.percent(90) {
             self.shrink(&mut rooms);
         }
-        let rooms = match self.random.below(12) {
+        let beyond = self.random.below(12);
+        let rooms = match beyond {
             0 => Rooms {
                 sets: self.random.pick(&[65, 1024, 1025, 0]),
                 ..rooms
@@ -210,8 +219,12 @@ impl Maker {
             },
             _ => rooms,
         };
-        let settings = self.settings();
+        let accepting = self.random.percent(50);
+        let settings = self.settings(accepting);
         bodies::put_opening(body, rooms, &settings);
+        if beyond == 2 {
+            body[bodies::ACCEPTING_AT] = self.random.pick(&[2, 3, 128, 255]);
+        }
     }
 
     fn shrink(&self, rooms: &mut Rooms) {
@@ -221,7 +234,7 @@ impl Maker {
         }
     }
 
-    fn settings(&mut self) -> Settings {
+    fn settings(&mut self, accepting: bool) -> Settings {
         let length = self.random.between(1, 3);
         let country_code = self.digits(length);
         let default_routing = self.digits_or_none(60, 15);
@@ -241,6 +254,7 @@ impl Maker {
             delimiter_a,
             delimiter_b,
             answers,
+            accepting,
         }
     }
 
@@ -584,8 +598,7 @@ impl Maker {
     }
 
     fn lookup(&mut self) -> LookupDigits {
-        let byte = self.random.weighted(&[(3, 0), (2, 1), (5, 2), (5, 3)]);
-        let kind = LookupKind::from_byte(byte).expect("a lookup kind");
+        let kind = self.random.weighted(&self.lookups);
         let entity = match kind {
             LookupKind::NoRecord | LookupKind::NoEntity => Vec::new(),
             LookupKind::RoutingNumber | LookupKind::ServiceProvider => {
@@ -733,11 +746,18 @@ fn wild_file(seed: u64, size: usize) -> Vec<u8> {
     bytes
 }
 
-/// A plan with as much as a program run takes, then `size` numbers.
+/// A plan with as much as a program run takes, then `size` numbers.  The
+/// benchmark compares builds over these files, so what they draw stays as it is.
 fn number_file(seed: u64, size: usize) -> Vec<u8> {
     let mut maker = Maker::new(seed, 0);
+    maker.lookups = [
+        (3, LookupKind::NoRecord),
+        (2, LookupKind::NoEntity),
+        (5, LookupKind::RoutingNumber),
+        (5, LookupKind::ServiceProvider),
+    ];
     let mut file = File::new();
-    let settings = maker.settings();
+    let settings = maker.settings(false);
     let mut body = Vec::new();
     bodies::put_opening(
         &mut body,
@@ -958,7 +978,10 @@ impl Script {
             .maker
             .random
             .pick(&[memory.len(), memory.len().min(64)]);
-        let place = self.maker.random.below(length);
+        let place = match self.maker.random.percent(10) {
+            true => layout::ACCEPTING_AT.min(memory.len() - 1),
+            false => self.maker.random.below(length),
+        };
         let old = memory[place];
         let near = [
             old.wrapping_add(1),

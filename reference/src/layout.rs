@@ -6,10 +6,11 @@ use crate::plan::Plan;
 use crate::rules::*;
 use std::collections::BTreeMap;
 
-const MARK: [u8; 4] = *b"NPP1";
+const MARK: [u8; 4] = *b"NPP2";
 const HEADER: usize = 64;
 const OPENING_AT: usize = 8;
 const OPENING_END: usize = OPENING_AT + bodies::OPENING;
+pub const ACCEPTING_AT: usize = OPENING_AT + bodies::ACCEPTING_AT;
 const SET_SLOT: usize = 48;
 const SET_USED: usize = 1 + bodies::CONTENT;
 const RULE_SLOT: usize = 24;

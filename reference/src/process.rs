@@ -1,5 +1,5 @@
 //! What is done to one number: conditioning, services, formatting
-//! (document 01, 'Carrying it out').
+//! (document 01, 'Carrying it out', and C-12).
 
 use crate::rules::*;
 
@@ -127,7 +127,8 @@ pub fn serve<'a>(set: &ActionSet, lookup: &Lookup<'a>, settings: &'a Settings) -
     served
 }
 
-/// CDPNNP.  DFLTRN serves kind 3 alone, and SP stays beside it.
+/// CDPNNP.  DFLTRN serves kind 3 alone, and SP stays beside it.  Kind 1 is a
+/// success where any record is accepted (C-12); RN and SP stay empty.
 fn portability<'a>(
     served: &mut Served<'a>,
     set: &ActionSet,
@@ -135,7 +136,8 @@ fn portability<'a>(
     settings: &'a Settings,
 ) {
     match lookup.kind {
-        LookupKind::NoRecord | LookupKind::NoEntity => served.withheld = true,
+        LookupKind::NoRecord => served.withheld = true,
+        LookupKind::NoEntity => served.withheld = !settings.accepting,
         LookupKind::RoutingNumber => served.rn = lookup.entity,
         LookupKind::ServiceProvider => {
             served.sp = lookup.entity;

@@ -146,6 +146,9 @@ pub struct Settings {
     pub delimiter_b: Vec<u8>,
     /// In the order of the lookup kinds 0 to 3 (docs/DECISIONS.md).
     pub answers: [Response; 4],
+    /// The option that accepts any record (C-12): 0 as before, 1 for success
+    /// on kind 1.
+    pub accepting: bool,
 }
 
 #[derive(Clone, Copy, Debug, PartialEq, Eq)]

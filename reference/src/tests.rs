@@ -1,5 +1,6 @@
 //! The tests of the second implementation.
 
+mod accepting;
 mod examples;
 mod generated;
 mod marked;

@@ -86,6 +86,15 @@ impl<'a> Words<'a> {
         word.parse().map_err(|_| format!("not a byte: {word}"))
     }
 
+    /// A last field that may be left out, label and all: then it is 0.
+    fn optional_byte(&mut self, label: &str) -> Written<u8> {
+        if self.rest.clone().next().is_none() {
+            return Ok(0);
+        }
+        self.label(label)?;
+        self.byte()
+    }
+
     fn two_bytes(&mut self) -> Written<[u8; 2]> {
         let word = self.next()?;
         let number: u16 = word.parse().map_err(|_| format!("not two bytes: {word}"))?;
@@ -152,6 +161,7 @@ fn opening(words: &mut Words) -> Written<Vec<u8>> {
     for _ in 0..4 {
         bytes.push(words.byte()?);
     }
+    bytes.push(words.optional_byte("accepting")?);
     Ok(bytes)
 }
 

@@ -9,7 +9,7 @@ const SETS: u16 = 8;
 const RULES: u16 = 8;
 
 fn main() -> Result<(), Refusal> {
-    // Country code 55, no DFLTRN, no delimiters, RELAY for every lookup kind.
+    // Country code 55, no DFLTRN, no delimiters, RELAY for every lookup kind, accepting 0.
     let settings = Settings::of_country(&[5, 5]);
     let opening = bodies::open(SETS, RULES, &settings).expect("a country code of 1 to 3 digits");
     let mut plan = Plan::new(SETS, RULES);

@@ -8,7 +8,7 @@
 use crate::{Class, Response, SetNumber, AS_INCOMING};
 
 /// The length of an opening.
-pub const OPEN_BYTES: usize = 40;
+pub const OPEN_BYTES: usize = 41;
 /// The length of a set to add or replace.
 pub const SET_BYTES: usize = 47;
 /// The length of the body that removes a set.
@@ -47,6 +47,7 @@ pub(crate) const OPEN_DFLTRN: usize = 8;
 pub(crate) const OPEN_DELIMITER_A: usize = 24;
 pub(crate) const OPEN_DELIMITER_B: usize = 30;
 pub(crate) const OPEN_ANSWERS: usize = 36;
+pub(crate) const OPEN_ACCEPTING: usize = 40;
 pub(crate) const SET_NUMBER: usize = 0;
 pub(crate) const SET_CLASS: usize = 2;
 pub(crate) const SET_CA: usize = 3;
@@ -94,10 +95,13 @@ pub struct Settings<'a> {
     pub delimiter_b: &'a [u8],
     /// INPRTG's answers for the lookup kinds 0, 1, 2, 3.
     pub answers: [Response; 4],
+    /// Whether any record is accepted (C-12): success of CDPNNP on lookup kind 1, with RN and SP empty.
+    pub accepting: bool,
 }
 
 impl<'a> Settings<'a> {
-    /// A country code and nothing else: no DFLTRN, no delimiters, RELAY for every lookup kind.
+    /// A country code and nothing else: no DFLTRN, no delimiters, RELAY for every lookup kind, not
+    /// accepting.
     pub fn of_country(country: &'a [u8]) -> Settings<'a> {
         Settings {
             country,
@@ -105,6 +109,7 @@ impl<'a> Settings<'a> {
             delimiter_a: &[],
             delimiter_b: &[],
             answers: [Response::Relay; 4],
+            accepting: false,
         }
     }
 }
@@ -116,6 +121,9 @@ impl<'a> Settings<'a> {
 ///
 /// let body = open(8, 9, &Settings::of_country(&[5, 5])).unwrap();
 /// assert_eq!(body[..8], [0, 8, 0, 9, 2, 5, 5, 0]);
+/// assert_eq!(body[36..], [1, 1, 1, 1, 0]);
+/// let accepting = Settings { accepting: true, ..Settings::of_country(&[5, 5]) };
+/// assert_eq!(open(8, 9, &accepting).unwrap()[36..], [1, 1, 1, 1, 1]);
 /// // A country code of four digits has no place in a body.
 /// assert_eq!(open(8, 9, &Settings::of_country(&[5, 5, 5, 5])), None);
 /// ```
@@ -138,7 +146,8 @@ pub fn open(sets: u16, rules: u16, settings: &Settings) -> Option<[u8; OPEN_BYTE
         settings.delimiter_b,
     )?;
     let answers = settings.answers.map(Response::code);
-    put_list(&mut body, OPEN_ANSWERS, OPEN_BYTES, &answers)?;
+    put_list(&mut body, OPEN_ANSWERS, OPEN_ACCEPTING, &answers)?;
+    body[OPEN_ACCEPTING] = u8::from(settings.accepting);
     Some(body)
 }
 

@@ -360,7 +360,7 @@ impl<M: AsMut<[u8]>> Plan<M> {
         /// `npp_open`. An accepted opening starts afresh, with no set and no rule; a refused one leaves
         /// the old plan in force.
         ///
-        /// Refusals, in order: CUT, the body is under 40 bytes; RANGE; ROOM, the memory is under
+        /// Refusals, in order: CUT, the body is under 41 bytes; RANGE; ROOM, the memory is under
         /// [`plan_bytes`] of the rooms asked.
         ///
         /// ```

@@ -19,6 +19,13 @@ fn open55(sets: u16, rules: u16) -> Vec<u8> {
     body.expect("fits").to_vec()
 }
 
+/// The same, accepting any record (C-12).
+fn accepting55(sets: u16, rules: u16) -> Vec<u8> {
+    let mut body = open55(sets, rules);
+    body[bodies::OPEN_ACCEPTING] = 1;
+    body
+}
+
 /// A set to add or replace.
 fn set(
     number: u16,

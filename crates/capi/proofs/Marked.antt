@@ -1,4 +1,4 @@
--- M1 to M12 over the functions that run: whatever meets the promises of the public calls on the bodies of the table gives the table's rows.
+-- The marked examples over the functions that run: whatever meets the promises of the public calls on the bodies of the table gives the table's rows.
 use Prim.Native.Nat.{ℕ, zero, suc}
 use mathlib.Core.Path.{_≡_, refl, ap, ap₂, sym, subst, _∙_}
 use mathlib.Core.Bool.{Bool, false, _&&_}

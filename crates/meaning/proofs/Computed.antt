@@ -1,6 +1,6 @@
--- The definitions tried by computing them: document 01's run, given whole, and what M1 to M12 do not reach, a row for each sentence or reading.
--- The results are worked out from document 01's rules, and each is what the definitions compute. Some rows carry 64 elements and more.
-use Prim.Native.Nat.{ℕ, zero, suc, _-_, _/_, _%_}
+-- The definitions tried by computing them: document 01's run, given whole, and what the table of marked examples does not reach, a row for each sentence or reading.
+-- The results are worked out from the papers' rules, and each is what the definitions compute. Some rows carry 64 elements and more.
+use Prim.Native.Nat.{ℕ, zero, suc, _+_, _-_, _/_, _%_}
 use Prim.Native.Char.{code}
 use Prim.Native.String.{String, [] as empty, _∷_ as _before_}
 use mathlib.Core.Path.{_≡_, refl}
@@ -9,7 +9,7 @@ use mathlib.Core.List.{List, [], _∷_, _++_, map, reverse}
 use mathlib.Core.Option.{Option, none, some}
 use lib.ListN.{take, drop, set, replicate}
 use lib.Dec.{ltb}
-use Rattle.meaning.specs.Sizes.{SETTINGS-BYTES, OPENING-BYTES, CONTENT-BYTES, SET-BODY, NUMBER-BYTES, LONGEST-RECORD, DIGIT-ROOM, RULES-AT, ROOMS-AT, SETTINGS-AT, SETTINGS-END, SETS-AT, CONTENT-AT, COUNT-AT, SET-WIDTH, RULE-WIDTH, RUN-SETS, RUN-RULES, RUN-BYTES}
+use Rattle.meaning.specs.Sizes.{ROOMS-BYTES, ACCEPTING-AT, SETTINGS-BYTES, OPENING-BYTES, CONTENT-BYTES, SET-BODY, NUMBER-BYTES, LONGEST-RECORD, DIGIT-ROOM, RULES-AT, ROOMS-AT, SETTINGS-AT, SETTINGS-END, SETS-AT, CONTENT-AT, COUNT-AT, SET-WIDTH, RULE-WIDTH, RUN-SETS, RUN-RULES, RUN-BYTES}
 use Rattle.meaning.specs.Basics.{if_then_else_, writtenOver, padded}
 use Rattle.meaning.specs.Settings.{roomsOf, roomsInRange, bytesNeeded, settingsOf, settingsInRange, lookupOf, entityInRange, asdOrGrnInRange, lookupInRange, numberOf, numberInRange, dialledInRange}
 use Rattle.meaning.specs.Filters.{filterOf, filterInRange, fitsNumber, rank, compareFilters}
@@ -17,7 +17,7 @@ use Rattle.meaning.specs.Rules.{firstLargest, weight, chosenPlace, chose
 use Rattle.meaning.specs.Actions.{valueOf, actionsOf, mostOf, caInRange, contentInRange}
 use Rattle.meaning.specs.Groups.{nothingWithoutCA, oneFormat, formatStands, fpfxFirst, oneXAction, precedence, isBacked, formattingBacked, groupsHold, fpfxMeetsPrefix, casFit, fit}
 use Rattle.meaning.specs.Conditioning.{Stretch, digitsAt, stretchOf, valueFrom, conditionedFrom, joined}
-use Rattle.meaning.specs.Services.{atStart, responded, inprtg, rnSet, cdpnnp, asdlkup, grnlkup, cdial, carryOut, eightPlaces, valueToSend}
+use Rattle.meaning.specs.Services.{atStart, responded, unsuccessful, inprtg, rnSet, cdpnnp, asdlkup, grnlkup, cdial, carryOut, eightPlaces, valueToSend}
 use Rattle.meaning.specs.Plan.{Plan, settingsIn, referrers, fresh, withSlot, withRules, contentPasses, codePasses, rulesFit, codesPass, sound}
 use Rattle.meaning.specs.Answer.{Answer, refused, unserved, served, outgoingClass, formatted, afterServices, answerBy, answerWith, answerOf, answer}
 use Rattle.meaning.specs.View.{view, answerByView}
@@ -37,7 +37,7 @@ use Rattle.meaning.specs.Run.{ascii, file, run, nineLines}
 
 -- every definition that is computed with
 everything : ℕ
-unfolding roomsOf roomsInRange bytesNeeded settingsOf settingsInRange lookupOf entityInRange asdOrGrnInRange lookupInRange numberOf numberInRange dialledInRange filterOf filterInRange fitsNumber rank compareFilters firstLargest weight chosenPlace chosen valueOf actionsOf mostOf caInRange contentInRange nothingWithoutCA oneFormat formatStands fpfxFirst oneXAction precedence isBacked formattingBacked groupsHold fpfxMeetsPrefix casFit fit stretchOf valueFrom conditionedFrom atStart responded inprtg rnSet cdpnnp asdlkup grnlkup cdial carryOut eightPlaces valueToSend referrers fresh withSlot withRules contentPasses codePasses rulesFit codesPass sound refused unserved served outgoingClass formatted afterServices answerBy answerWith answerOf view answerByView conditionedBy stretchBy listing isKind isCall bodyLength openingLines addSetLines replaceSetLines removeSetLines addRuleLines changeRuleLines removeRuleLines refusal after decimal digitText okLine noLine numberLine refsLine listedLine endLine lacksProgramRoom operationOf recordText recordHouse fileText fileEnd
+unfolding roomsOf roomsInRange bytesNeeded settingsOf settingsInRange lookupOf entityInRange asdOrGrnInRange lookupInRange numberOf numberInRange dialledInRange filterOf filterInRange fitsNumber rank compareFilters firstLargest weight chosenPlace chosen valueOf actionsOf mostOf caInRange contentInRange nothingWithoutCA oneFormat formatStands fpfxFirst oneXAction precedence isBacked formattingBacked groupsHold fpfxMeetsPrefix casFit fit stretchOf valueFrom conditionedFrom atStart responded unsuccessful inprtg rnSet cdpnnp asdlkup grnlkup cdial carryOut eightPlaces valueToSend referrers fresh withSlot withRules contentPasses codePasses rulesFit codesPass sound refused unserved served outgoingClass formatted afterServices answerBy answerWith answerOf view answerByView conditionedBy stretchBy listing isKind isCall bodyLength openingLines addSetLines replaceSetLines removeSetLines addRuleLines changeRuleLines removeRuleLines refusal after decimal digitText okLine noLine numberLine refsLine listedLine endLine lacksProgramRoom operationOf recordText recordHouse fileText fileEnd
 everything = 0
 
 -- THE RUN
@@ -66,7 +66,7 @@ digits (c before s) = (if ltb (code c) 58 then code c - 48 else code c - 87) ∷
 abbrev pub two : ℕ → List ℕ
 two n = n / 256 ∷ n % 256 ∷ []
 
--- rooms, country code, DFLTRN, the delimiters, the four answers
+-- rooms, country code, DFLTRN, the delimiters, the four answers; accepting 0
 abbrev pub opening : ℕ → ℕ → String → String → String → String → List ℕ → List ℕ
 opening sets rules country dfltrn a b answers =
     OPEN-PLAN
@@ -119,6 +119,10 @@ abbrev pub but : ℕ → ℕ → List ℕ → List ℕ
 but at v r = set r at v
 
 -- OPENINGS AND SETS THAT THE ROWS SHARE
+
+-- an opening under another accepting byte
+abbrev pub accepting : ℕ → List ℕ → List ℕ
+accepting v r = but (1 + ROOMS-BYTES + ACCEPTING-AT) v r
 
 -- every kind RELAY
 abbrev pub relay : List ℕ
@@ -218,7 +222,7 @@ shownPlace l = l .0 ∷ orNothing listedFields (l .1)
 
 -- ROWS: each is an equation, with its proof by computing
 
--- found is what the definitions compute, expected what document 01 says
+-- found is what the definitions compute, expected what the papers say
 pub record Row : Type 0 where
   pub found : List ℕ
   pub expected : List ℕ
@@ -292,6 +296,31 @@ carried =
     (0 ∷ 4 ∷ 1 ∷ 1 ∷ 5 ∷ 1 ∷ 2 ∷ 4 ∷ 3 ∷ 5 ∷ 0 ∷ 0 ∷ 0 ∷ 4 ∷ 8 ∷ 7 ∷ 6 ∷ []) refl
     ∷ []
 
+-- A SUBSCRIBER WITHOUT ENTITY (C-12)
+
+pub without-entity : List Row
+unfolding everything
+without-entity =
+    -- under 1: kind 1 is formatted with RN and SP empty and without DFLTRN, which kind 3 alone gets; kind 0 stays unsuccessful
+    writes
+    (accepting 1 (opening 8 8 "55" "0099" "" "" relay) ∷ newSet 0 255 dnxCcdef (2 ∷ []) (11 ∷ 12 ∷ 4 ∷ []) ∷ newRule 1 "" 0 0
+    ∷ number 1 "87654321" 3 "77" ∷ number 1 "87654321" 2 "0015" ∷ number 1 "87654321" 0 "" ∷ number 1 "87654321" 1 "" ∷ [])
+    "ok\nok\nok\n4 1 0 1 00997787654321\n4 1 0 1 001587654321\n3 1 0 1 -\n4 1 0 1 87654321\n" refl
+    -- it is formatted like any other: with the set's class and the delimiters, LONG over 32 digits, SHORT before the services
+    ∷ writes
+    (accepting 1 (opening 8 8 "55" "0099" "d" "" relay) ∷ newSet 0 3 dnxCcdef (2 ∷ []) (11 ∷ 15 ∷ 12 ∷ 4 ∷ []) ∷ newRule 1 "" 0 0
+    ∷ number 1 "87654321" 1 "" ∷ number 1 "12345678123456781234567812345678" 1 "" ∷ number 1 "" 1 "" ∷ [])
+    "ok\nok\nok\n4 3 0 1 d87654321\nno 13\nno 12\n" refl
+    -- INPRTG answers kind 1 under 1 as under 0, ASD and GRN are set under both, and what withholds under 0 is CDPNNP alone
+    ∷ writes
+    (accepting 1 (opening 8 8 "55" "" "" "" (1 ∷ 4 ∷ 1 ∷ 1 ∷ [])) ∷ newSet 0 255 dnxCcdef (1 ∷ 2 ∷ []) (11 ∷ 4 ∷ []) ∷ newRule 1 "" 0 0 ∷ number 1 "87654321" 1 ""
+    ∷ accepting 1 plain ∷ newSet 0 255 dnxCcdef (2 ∷ 3 ∷ 4 ∷ []) (13 ∷ 11 ∷ 14 ∷ 4 ∷ []) ∷ newSet 1 255 dnxCcdef (3 ∷ 4 ∷ []) (13 ∷ 14 ∷ 4 ∷ []) ∷ newRule 1 "" 0 0 ∷ newRule 2 "" 0 1
+    ∷ numberWith 1 "8765" 1 "" "40" "5" ∷ numberWith 2 "8765" 1 "" "40" "5"
+    ∷ plain ∷ newSet 0 255 dnxCcdef (2 ∷ 3 ∷ 4 ∷ []) (13 ∷ 11 ∷ 14 ∷ 4 ∷ []) ∷ newSet 1 255 dnxCcdef (3 ∷ 4 ∷ []) (13 ∷ 14 ∷ 4 ∷ []) ∷ newRule 1 "" 0 0 ∷ newRule 2 "" 0 1
+    ∷ numberWith 1 "8765" 1 "" "40" "5" ∷ numberWith 2 "8765" 1 "" "40" "5" ∷ [])
+    "ok\nok\nok\n2 1 4 1 -\nok\nok\nok\nok\nok\n4 1 0 3 4058765\n4 2 0 2 4058765\nok\nok\nok\nok\nok\n3 1 0 3 -\n4 2 0 2 4058765\n" refl
+    ∷ []
+
 -- FILTERS, GROUP RULES AND FIT
 
 pub ruled : List Row
@@ -339,8 +368,8 @@ ranged =
     -- the settings' ranges, and their unused bytes
     writes
     (but 5 4 plain ∷ but 5 0 plain ∷ but 6 16 plain ∷ but 8 1 plain ∷ but 9 16 plain ∷ but 24 1 plain ∷ but 25 6 plain ∷ but 30 1 plain ∷ but 31 6 plain
-    ∷ but 36 1 plain ∷ but 37 0 plain ∷ but 40 5 plain ∷ but 40 4 plain ∷ [])
-    "no 5\nno 5\nno 5\nno 5\nno 5\nno 5\nno 5\nno 5\nno 5\nno 5\nno 5\nno 5\nok\n" refl
+    ∷ but 36 1 plain ∷ but 37 0 plain ∷ but 40 5 plain ∷ but 40 4 plain ∷ but 41 2 plain ∷ but 41 255 plain ∷ but 41 1 plain ∷ [])
+    "no 5\nno 5\nno 5\nno 5\nno 5\nno 5\nno 5\nno 5\nno 5\nno 5\nno 5\nno 5\nok\nno 5\nno 5\nok\n" refl
     -- a set's ranges: classes, codes and counts, a gap in a list, a count beside code 0, bytes behind the end of a list
     ∷ writes
     (plain ∷ but 3 6 (s1 0) ∷ but 3 254 (s1 0) ∷ but 4 0 (s1 0) ∷ but 4 16 (s1 0) ∷ but 5 1 (s1 0) ∷ but 9 1 (s1 0) ∷ but 10 12 (s1 0) ∷ but 27 1 (s1 0)
@@ -713,8 +742,8 @@ large =
 
 -- THE SIZES: the sums of specs/Sizes.antt are document 01's numbers, and docs/LAYOUT.md's. Whatever moves a width changes rows here, and no other rows: nothing else stands behind this line.
 
--- "Kind | Body bytes", 0 to 9, and no other kind has a body
-pub body-bytes : map bodyLength (kinds ++ (10 ∷ 255 ∷ [])) ≡ 40 ∷ 47 ∷ 47 ∷ 2 ∷ 21 ∷ 21 ∷ 19 ∷ 73 ∷ 2 ∷ 0 ∷ 0 ∷ 0 ∷ []
+-- "Kind | Body bytes", 0 to 9, "kind 0's body becomes 41" (C-12), and no other kind has a body
+pub body-bytes : map bodyLength (kinds ++ (10 ∷ 255 ∷ [])) ≡ 41 ∷ 47 ∷ 47 ∷ 2 ∷ 21 ∷ 21 ∷ 19 ∷ 73 ∷ 2 ∷ 0 ∷ 0 ∷ 0 ∷ []
 unfolding everything
 body-bytes = refl
 
@@ -729,7 +758,7 @@ unfolding everything
 run-asked = refl
 
 -- the places in a set slot and in the header (docs/LAYOUT.md)
-pub places : (RULES-AT ∷ ROOMS-AT ∷ SETTINGS-AT ∷ SETTINGS-END ∷ SETS-AT ∷ CONTENT-AT ∷ COUNT-AT ∷ []) ≡ 4 ∷ 8 ∷ 12 ∷ 48 ∷ 64 ∷ 1 ∷ 46 ∷ []
+pub places : (RULES-AT ∷ ROOMS-AT ∷ SETTINGS-AT ∷ SETTINGS-END ∷ SETS-AT ∷ CONTENT-AT ∷ COUNT-AT ∷ []) ≡ 4 ∷ 8 ∷ 12 ∷ 49 ∷ 64 ∷ 1 ∷ 46 ∷ []
 places = refl
 
 -- ROOM at opening: "64 bytes + 48 a set + 24 a rule"; RANGE first
@@ -737,7 +766,7 @@ pub room-refused : numbersOver (MEMORY - 1) (plain ∷ rooms 8 7 ∷ rooms 9 7 �
 unfolding everything
 room-refused = refl
 
--- document 01's run comes to its end, behind its 337 bytes; a byte that is no kind, or a record that is cut, ends it there
-pub ends-of-run : (endFields (fileEnd run) ≡ 0 ∷ 337 ∷ []) × (endFields (fileEnd (run ++ (200 ∷ 9 ∷ []))) ≡ 2 ∷ 337 ∷ []) × (endFields (fileEnd (run ++ (7 ∷ 1 ∷ []))) ≡ 1 ∷ 337 ∷ [])
+-- document 01's run comes to its end, behind its 337 bytes and C-12's one; a byte that is no kind, or a record that is cut, ends it there
+pub ends-of-run : (endFields (fileEnd run) ≡ 0 ∷ 338 ∷ []) × (endFields (fileEnd (run ++ (200 ∷ 9 ∷ []))) ≡ 2 ∷ 338 ∷ []) × (endFields (fileEnd (run ++ (7 ∷ 1 ∷ []))) ≡ 1 ∷ 338 ∷ [])
 unfolding everything run
 ends-of-run = (refl, refl, refl)

@@ -7,6 +7,7 @@ pub mod RuleLists
 pub mod Choice
 pub mod View
 pub mod Serving
+pub mod Accepting
 pub mod Stretches
 pub mod ConditionedNumber
 pub mod Soundness

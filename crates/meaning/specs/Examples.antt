@@ -1,4 +1,4 @@
--- Document 01's marked examples, M1 to M12, as one table: the calls that make the plan, what is asked, and the result, every field of it.
+-- Document 01's marked examples, M1 to M12, and document 02's of C-12, as one table: the calls that make the plan, what is asked, and the result, every field of it.
 use Prim.Native.Nat.{ℕ}
 use mathlib.Core.Path.{_≡_}
 use mathlib.Core.Bool.{Bool, true, false}
@@ -20,9 +20,9 @@ abbrev pub string : ℕ → List ℕ → List ℕ
 string n ds = length ds ∷ padded n ds
 
 -- 8 sets, 8 rules, country code 55
-abbrev pub openingBody : List ℕ → List ℕ → List ℕ
-openingBody dfltrn answers =
-    0 ∷ 8 ∷ 0 ∷ 8 ∷ padded SETTINGS-BYTES (string 3 (5 ∷ 5 ∷ []) ++ (string 15 dfltrn ++ (string 5 [] ++ (string 5 [] ++ answers))))
+abbrev pub openingBody : List ℕ → List ℕ → ℕ → List ℕ
+openingBody dfltrn answers accepting =
+    0 ∷ 8 ∷ 0 ∷ 8 ∷ padded SETTINGS-BYTES (string 3 (5 ∷ 5 ∷ []) ++ (string 15 dfltrn ++ (string 5 [] ++ (string 5 [] ++ (answers ++ (accepting ∷ []))))))
 
 abbrev pub setBody : ℕ → List ℕ → List ℕ → List ℕ → List ℕ
 setBody class cas sas fas = 0 ∷ 0 ∷ padded CONTENT-BYTES (class ∷ (padded 24 cas ++ (padded 8 sas ++ padded 12 fas)))
@@ -38,17 +38,21 @@ numberBody class ds kind entity = padded NUMBER-BYTES (class ∷ (string 32 ds +
 abbrev pub call : Operation → List ℕ → Call
 call o b = record { operation = o; body = b }
 
--- "Country code 55, no DFLTRN"; every kind RELAY
+-- "Country code 55, no DFLTRN"; every kind RELAY, accepting 0
 abbrev pub open55 : Call
-open55 = call openPlan (openingBody [] (1 ∷ 1 ∷ 1 ∷ 1 ∷ []))
+open55 = call openPlan (openingBody [] (1 ∷ 1 ∷ 1 ∷ 1 ∷ []) 0)
 
 -- M8: "with DFLTRN 0099"
 abbrev pub open0099 : Call
-open0099 = call openPlan (openingBody (0 ∷ 0 ∷ 9 ∷ 9 ∷ []) (1 ∷ 1 ∷ 1 ∷ 1 ∷ []))
+open0099 = call openPlan (openingBody (0 ∷ 0 ∷ 9 ∷ 9 ∷ []) (1 ∷ 1 ∷ 1 ∷ 1 ∷ []) 0)
 
 -- M12: "no record, which is set to RELEASECALL"
 abbrev pub openRelease : Call
-openRelease = call openPlan (openingBody [] (4 ∷ 1 ∷ 1 ∷ 1 ∷ []))
+openRelease = call openPlan (openingBody [] (4 ∷ 1 ∷ 1 ∷ 1 ∷ []) 0)
+
+-- C-12: "1 for success on kind 1"
+abbrev pub openAccepting : Call
+openAccepting = call openPlan (openingBody [] (1 ∷ 1 ∷ 1 ∷ 1 ∷ []) 1)
 
 -- S1: "DNX, CCDEF; CDPNNP; RN, DN; class 255", with another SA list in M10 and M12
 abbrev pub S1 : List ℕ → List ℕ
@@ -170,6 +174,8 @@ table =
     ∷ row (open55 ∷ call addSet S2 ∷ call addRule (ruleBody 2 (11 ∷ []) 7) ∷ call addRule (ruleBody 2 (11 ∷ []) 8) ∷ []) (0 ∷ 0 ∷ 9 ∷ 0 ∷ []) nothing []
     -- M12: RESPONDED, 4, one action
     ∷ row (under openRelease (S1 (1 ∷ 2 ∷ [])) 1) accepted3 (answered (numberBody 1 subscriber 0 [])) (0 ∷ 2 ∷ 1 ∷ 4 ∷ 1 ∷ (actions1 1 ++ (0 ∷ [])))
+    -- C-12: FORMATTED 87654321
+    ∷ row (under openAccepting (S1 (2 ∷ [])) 1) accepted3 (answered (numberBody 1 subscriber 1 [])) (0 ∷ 4 ∷ 1 ∷ 0 ∷ 1 ∷ (actions1 2 ++ (8 ∷ subscriber)))
     ∷ []
 
 -- a row holds: each call is answered with its number, and what is asked with the row's result

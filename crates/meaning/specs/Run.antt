@@ -18,12 +18,12 @@ file (r ∷ rs) = r ++ file rs
 
 -- "Open with country code 55, DFLTRN none; add set 0 (S1 below); add rule NATL, wildcard, wildcard, set 0; number NATL 87654321 with
 -- RN 0015; the same with no record; the same digits as INTL; remove set 0; list". Each record is a byte of kind and its body; the opening asks
--- room for 8 sets and 8 rules, with no delimiters and RELAY for every kind.
+-- room for 8 sets and 8 rules, with no delimiters, RELAY for every kind and accepting 0.
 unfoldable pub run : List ℕ
 run =
     file
     (
-    (OPEN-PLAN ∷ openingBody [] (1 ∷ 1 ∷ 1 ∷ 1 ∷ []))
+    (OPEN-PLAN ∷ openingBody [] (1 ∷ 1 ∷ 1 ∷ 1 ∷ []) 0)
     ∷ (ADD-SET ∷ S1 (2 ∷ []))
     ∷ (ADD-RULE ∷ ruleBody 1 [] 0)
     ∷ (NUMBER ∷ numberBody 1 subscriber 2 (0 ∷ 0 ∷ 1 ∷ 5 ∷ []))

@@ -4,7 +4,7 @@ use mathlib.Core.Bool.{Bool, true, false, _&&_, _||_, not}
 use mathlib.Core.List.{List, [], _∷_, _++_}
 use lib.ListN.{length, take, getD, replicate}
 use lib.Dec.{leb, eqb}
-use Rattle.meaning.specs.Basics.{if_then_else_, isEmpty, contains}
+use Rattle.meaning.specs.Basics.{if_then_else_, isZero, isEmpty, contains}
 use Rattle.meaning.specs.Settings.{Settings, Lookup}
 use Rattle.meaning.specs.Actions.{RN, LAST-CONDITIONED, INPRTG, CDPNNP, ASDLKUP, GRNLKUP, CDIAL}
 
@@ -24,6 +24,10 @@ atStart = record { response = 0; done = []; rn = []; sp = []; asd = []; grn = []
 -- "If it is not RELAY nothing more is carried out": the response is 2, 3 or 4
 unfoldable pub responded : Stage → Bool
 responded s = leb 2 (s .response)
+
+-- CDPNNP: "Kinds 0 and 1 are unsuccessful"; C-12: "0 as before, 1 for success on kind 1"
+unfoldable pub unsuccessful : Settings → Lookup → Bool
+unsuccessful settings lookup = isZero (lookup .kind) || (eqb (lookup .kind) 1 && isZero (settings .accepting))
 
 module _ (settings : Settings) (lookup : Lookup) (fas : List ℕ) where
   -- "INPRTG sets the response for the lookup's kind"; the answers stand in the order of the kinds (docs/DECISIONS.md, 2)
@@ -45,7 +49,7 @@ module _ (settings : Settings) (lookup : Lookup) (fas : List ℕ) where
       if eqb (lookup .kind) 2 then lookup .entity else
       if eqb (lookup .kind) 3 && (not (isEmpty (settings .dfltrn)) && contains RN fas) then settings .dfltrn else s .rn
 
-  -- CDPNNP; "kind 3 sets SP"; "Kinds 0 and 1 are unsuccessful: formatting is withheld"
+  -- CDPNNP; "kind 3 sets SP"; "unsuccessful: formatting is withheld"
   unfoldable pub cdpnnp : Stage → Stage
   cdpnnp s =
       record {
@@ -55,7 +59,7 @@ module _ (settings : Settings) (lookup : Lookup) (fas : List ℕ) where
         sp = (if eqb (lookup .kind) 3 then lookup .entity else s .sp);
         asd = s .asd;
         grn = s .grn;
-        withheld = leb (lookup .kind) 1 || s .withheld;
+        withheld = unsuccessful settings lookup || s .withheld;
       }
 
   -- "ASDLKUP and GRNLKUP set ASD and GRN if the lookup has digits"

@@ -4,7 +4,7 @@ use mathlib.Core.Bool.{Bool, true, false, _&&_, _||_}
 use mathlib.Core.List.{List, [], _∷_}
 use lib.ListN.{length, take, drop, getD}
 use lib.Dec.{leb, ltb, eqb}
-use Rattle.meaning.specs.Sizes.{COUNTRY-AT, DFLTRN-AT, DELIMITER-A-AT, DELIMITER-B-AT, ANSWERS-AT, CLASS-AT, DIALLED-AT, LOOKUP-AT, ENTITY-IN, ASD-IN, GRN-IN, LOOKUP-BYTES, SETS-AT, SET-WIDTH, RULE-WIDTH}
+use Rattle.meaning.specs.Sizes.{COUNTRY-AT, DFLTRN-AT, DELIMITER-A-AT, DELIMITER-B-AT, ANSWERS-AT, ACCEPTING-AT, CLASS-AT, DIALLED-AT, LOOKUP-AT, ENTITY-IN, ASD-IN, GRN-IN, LOOKUP-BYTES, SETS-AT, SET-WIDTH, RULE-WIDTH}
 use Rattle.meaning.specs.Basics.{if_then_else_, all, allOf, isZero, within, word, part, isDigit, digitsOf, digitsInRange}
 
 -- CLASSES
@@ -40,14 +40,16 @@ bytesNeeded r = SETS-AT + SET-WIDTH * r .sets + RULE-WIDTH * r .rules
 
 -- SETTINGS: the bytes behind the rooms
 
+-- accepting: "the option that accepts any record" (C-12)
 pub record Settings : Type 0 where
   pub country : List ℕ
   pub dfltrn : List ℕ
   pub delimiterA : List ℕ
   pub delimiterB : List ℕ
   pub answers : List ℕ
+  pub accepting : ℕ
 
--- "country code 1+3, DFLTRN 1+15, delimiters 1+5 twice, four answers"
+-- "country code 1+3, DFLTRN 1+15, delimiters 1+5 twice, four answers"; C-12: "one more setting byte, the last"
 unfoldable pub settingsOf : List ℕ → Settings
 settingsOf b =
     record {
@@ -56,13 +58,16 @@ settingsOf b =
       delimiterA = digitsOf (part DELIMITER-A-AT 6 b);
       delimiterB = digitsOf (part DELIMITER-B-AT 6 b);
       answers = part ANSWERS-AT 4 b;
+      accepting = getD b ACCEPTING-AT 0;
     }
 
--- "default country code, 1 to 3 digits; default routing number DFLTRN, 0 to 15 ..; delimiters A and B, 0 to 5 each; .. 1 RELAY, 2 CONNECT, 3 CONTINUE, 4 RELEASECALL"
+-- "default country code, 1 to 3 digits; default routing number DFLTRN, 0 to 15 ..; delimiters A and B, 0 to 5 each; .. 1 RELAY, 2 CONNECT, 3 CONTINUE, 4 RELEASECALL";
+-- C-12: "0 as before, 1 for success on kind 1"
 abbrev pub settingsRanges : List ℕ → List Bool
 settingsRanges b =
     digitsInRange 1 3 (part COUNTRY-AT 4 b) ∷ digitsInRange 0 15 (part DFLTRN-AT 16 b) ∷ digitsInRange 0 5 (part DELIMITER-A-AT 6 b)
-    ∷ digitsInRange 0 5 (part DELIMITER-B-AT 6 b) ∷ all (within 1 4) (part ANSWERS-AT 4 b) ∷ []
+    ∷ digitsInRange 0 5 (part DELIMITER-B-AT 6 b) ∷ all (within 1 4) (part ANSWERS-AT 4 b)
+    ∷ leb (getD b ACCEPTING-AT 0) 1 ∷ []
 
 unfoldable pub settingsInRange : List ℕ → Bool
 settingsInRange b = allOf (settingsRanges b)

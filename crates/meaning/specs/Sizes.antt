@@ -3,7 +3,7 @@
 use Prim.Native.Nat.{ℕ, _+_, _*_}
 use mathlib.Core.List.{List, [], _∷_}
 
--- AN OPENING: "rooms 2+2", and the settings: "country code 1+3, DFLTRN 1+15, delimiters 1+5 twice, four answers"
+-- AN OPENING: "rooms 2+2", and the settings: "country code 1+3, DFLTRN 1+15, delimiters 1+5 twice, four answers", and "one more setting byte, the last" (C-12)
 
 abbrev pub ROOMS-BYTES : ℕ
 ROOMS-BYTES = 4
@@ -30,8 +30,11 @@ ANSWERS-AT = DELIMITER-B-AT + 1 + 5
 abbrev pub ANSWERS-END : ℕ
 ANSWERS-END = ANSWERS-AT + 4
 
+abbrev pub ACCEPTING-AT : ℕ
+ACCEPTING-AT = ANSWERS-END
+
 abbrev pub SETTINGS-BYTES : ℕ
-SETTINGS-BYTES = ANSWERS-END
+SETTINGS-BYTES = ACCEPTING-AT + 1
 
 abbrev pub OPENING-BYTES : ℕ
 OPENING-BYTES = ROOMS-BYTES + SETTINGS-BYTES
@@ -181,7 +184,7 @@ RUN-BYTES = SETS-AT + SET-WIDTH * RUN-SETS + RULE-WIDTH * RUN-RULES
 -- all of them, in the order of this page
 abbrev pub sizes : List ℕ
 sizes =
-    ROOMS-BYTES ∷ COUNTRY-AT ∷ COUNTRY-DIGITS-AT ∷ DFLTRN-AT ∷ DELIMITER-A-AT ∷ DELIMITER-B-AT ∷ ANSWERS-AT ∷ ANSWERS-END ∷ SETTINGS-BYTES
+    ROOMS-BYTES ∷ COUNTRY-AT ∷ COUNTRY-DIGITS-AT ∷ DFLTRN-AT ∷ DELIMITER-A-AT ∷ DELIMITER-B-AT ∷ ANSWERS-AT ∷ ANSWERS-END ∷ ACCEPTING-AT ∷ SETTINGS-BYTES
     ∷ OPENING-BYTES ∷ SET-NUMBER-BYTES ∷ OUTGOING-AT ∷ CA-AT ∷ SA-AT ∷ FA-AT ∷ FA-END ∷ CONTENT-BYTES ∷ SET-BODY ∷ CLASS-AT ∷ PREFIX-AT
     ∷ PREFIX-DIGITS-AT ∷ LENGTH-AT ∷ FILTER-BYTES ∷ SET-AT ∷ RULE-BODY ∷ DIALLED-AT ∷ DIALLED-DIGITS-AT ∷ LOOKUP-AT ∷ ENTITY-IN ∷ ASD-IN ∷ GRN-IN
     ∷ LOOKUP-BYTES ∷ VALUE-BYTES ∷ NUMBER-BYTES ∷ LONGEST-RECORD ∷ DIGIT-ROOM ∷ HEADER-BYTES ∷ RULES-AT ∷ ROOMS-AT ∷ ROOMS-END ∷ SETTINGS-AT

@@ -20,7 +20,9 @@ pub const ANSWERS_AT: usize = DELIMITER_B_AT + 1 + 5;
 
 pub const ANSWERS_END: usize = ANSWERS_AT + 4;
 
-pub const SETTINGS_BYTES: usize = ANSWERS_END;
+pub const ACCEPTING_AT: usize = ANSWERS_END;
+
+pub const SETTINGS_BYTES: usize = ACCEPTING_AT + 1;
 
 pub const OPENING_BYTES: usize = ROOMS_BYTES + SETTINGS_BYTES;
 
@@ -114,7 +116,7 @@ pub const RUN_RULES: usize = 512;
 pub const RUN_BYTES: usize = SETS_AT + SET_WIDTH * RUN_SETS + RULE_WIDTH * RUN_RULES;
 
 // All of them, in the order of this page: each is its twin.
-pub fn sizes() -> [usize; 50]
+pub fn sizes() -> [usize; 51]
     ensures { λ r. ⌜ r ≡ sizes ⌝ }
 {
     [
@@ -126,6 +128,7 @@ pub fn sizes() -> [usize; 50]
         DELIMITER_B_AT,
         ANSWERS_AT,
         ANSWERS_END,
+        ACCEPTING_AT,
         SETTINGS_BYTES,
         OPENING_BYTES,
         SET_NUMBER_BYTES,

@@ -15,9 +15,9 @@ use Rattle.filter.specs.Slots.{rulesOf}
 
 -- THE IMAGE OF A PLAN
 
--- the mark of this build, `NPP1`
+-- the mark of this build, `NPP2`
 abbrev pub mark : List ℕ
-mark = 78 ∷ 80 ∷ 80 ∷ 49 ∷ []
+mark = 78 ∷ 80 ∷ 80 ∷ 50 ∷ []
 
 -- "Two-byte numbers: high byte first"
 abbrev pub wordBytes : ℕ → List ℕ

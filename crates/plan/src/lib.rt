@@ -34,8 +34,8 @@ use meaning::sizes::SETS_AT;
 use meaning::sizes::SETTINGS_AT;
 use meaning::sizes::SETTINGS_END;
 
-// The mark of this build, `NPP1`.
-pub const MARK: [u8; 4] = [78, 80, 80, 49];
+// The mark of this build, `NPP2`.
+pub const MARK: [u8; 4] = [78, 80, 80, 50];
 
 // The place of the second of the two rooms.
 const RULE_ROOM_AT: usize = ROOMS_AT + 2;

@@ -7,6 +7,7 @@ ghost use Rattle.meaning.specs.Settings.{isClass, roomsInRange, settingsInRange
 ghost use Rattle.blocks.specs.Places.{maskTable};
 use meaning::Class;
 use meaning::ClassOf;
+use meaning::sizes::ACCEPTING_AT;
 use meaning::sizes::ANSWERS_AT;
 use meaning::sizes::ANSWERS_END;
 use meaning::sizes::ASD_IN;
@@ -76,7 +77,10 @@ pub fn settings_in_range(settings: &[u8]) -> bool
     if !blocks::digits_in_range(&settings[DELIMITER_B_AT..ANSWERS_AT], 0, 5) {
         return false;
     }
-    answers_in_range(&settings[ANSWERS_AT..ANSWERS_END])
+    if !answers_in_range(&settings[ANSWERS_AT..ANSWERS_END]) {
+        return false;
+    }
+    settings[ACCEPTING_AT] <= 1
 }
 
 // Whether a byte is a class.

@@ -1,30 +1,27 @@
 -- How the loop over the service actions goes on: what is left of the list, from the stage reached, decides.
 use Prim.Native.Nat.{ℕ, _+_, _-_, _≤_, _<_}
 use mathlib.Core.Path.{_≡_, refl, sym, ap, subst, _∙_}
-use mathlib.Core.Bool.{true, false}
+use mathlib.Core.Bool.{Bool, true, false}
 use mathlib.Core.List.{List, [], _∷_, _++_}
 use native.Mathlib.Omega.{arith}
 use lib.ListN.{length, take, drop, getD, take-append-drop}
 use lib.Dec.{leb}
 use lib.Seq.{take-append-add, length-take-le, drop-drop, getD-take, getD-drop}
 use borrow.Author.Tests.{le-leb, lt-leb}
+use Rattle.meaning.specs.Sizes.{ANSWERS-AT}
 use Rattle.meaning.specs.Settings.{Settings, Lookup, settingsOf, lookupOf}
 use Rattle.meaning.specs.Actions.{codesOf}
-use Rattle.meaning.specs.Services.{Stage, atStart, responded, serve, eightPlaces}
+use Rattle.meaning.specs.Services.{Stage, atStart, responded, unsuccessful, serve, eightPlaces}
 use Rattle.services.specs.declared.Served.{Served}
 use Rattle.services.specs.Stages.{stageOf, noEffect, servedWith, stageAfter, ServedAs, ServedFrom, ServedAnew}
 use Rattle.services.proofs.Stages.{CarriesOut, carryingOut}
 use Rattle.buffer.specs.Zeros.{zeros}
 use Rattle.buffer.proofs.ZeroLaws.{take-zeros, drop-zeros}
 
--- the kind and INPRTG's answer for it, as the bytes have them
-pub kind-is : (lookup : List ℕ) → lookupOf lookup .kind ≡ getD lookup 0 0
-unfolding lookupOf
-kind-is lookup = refl
-
-pub answer-is : (settings : List ℕ) (kind : ℕ) → kind ≤ 3 → getD (settingsOf settings .answers) kind 0 ≡ getD settings (32 + kind) 0
-unfolding settingsOf
-answer-is settings kind h = getD-take 4 (drop 32 settings) kind 0 (omega arith) ∙ getD-drop 32 settings kind 0
+-- INPRTG's answer for the lookup's kind, as the bytes have it
+answer-is : (settings lookup : List ℕ) → getD lookup 0 0 ≤ 3 → getD (settingsOf settings .answers) (lookupOf lookup .kind) 0 ≡ getD settings (ANSWERS-AT + getD lookup 0 0) 0
+unfolding settingsOf lookupOf
+answer-is settings lookup h = getD-take 4 (drop ANSWERS-AT settings) (getD lookup 0 0) 0 (omega arith) ∙ getD-drop ANSWERS-AT settings (getD lookup 0 0) 0
 
 -- what is still to be carried out, from the stage reached
 abbrev pub rest : List ℕ → List ℕ → List ℕ → List ℕ → ℕ → Served → Stage
@@ -49,10 +46,10 @@ unfolding responded stageOf
 responded-is settings lookup fas s = refl
 
 module _ {places sas settings lookup : List ℕ} {i : ℕ} {s : Served} (g : Going places sas settings lookup i s) where
-  pub going-more : {code kind answer : ℕ} {r : Served} → codesOf (drop i sas) ≡ code ∷ codesOf (drop (i + 1) sas) → s .response ≤ 1 → length (r .actions) ≡ 8
-      → kind ≡ getD lookup 0 0 → kind ≤ 3 → answer ≡ getD settings (32 + kind) 0 → CarriesOut (carryingOut code) kind answer s r
-      → Going places sas settings lookup (i + 1) r
-  going-more {code} {kind} {answer} {r} e h l k m a o =
+  pub going-more : {code answer : ℕ} {fails : Bool} {r : Served} → codesOf (drop i sas) ≡ code ∷ codesOf (drop (i + 1) sas) → s .response ≤ 1 → length (r .actions) ≡ 8
+      → fails ≡ unsuccessful (settingsOf settings) (lookupOf lookup) → getD lookup 0 0 ≤ 3 → answer ≡ getD settings (ANSWERS-AT + getD lookup 0 0) 0
+      → CarriesOut (carryingOut code) fails answer s r → Going places sas settings lookup (i + 1) r
+  going-more {code} {answer} {fails} {r} e h l f m a o =
       let on : leb 2 (s .response) ≡ false = lt-leb 2 (s .response) (omega arith) in
       record {
         at = o .count ∙ ap (λ (n : ℕ). n + 1) (g .at);
@@ -60,7 +57,7 @@ module _ {places sas settings lookup : List ℕ} {i : ℕ} {s : Served} (g : Goi
         behind = (rw (g .at) at (o .behind)) ∙ sym (drop-drop 1 i (s .actions)) ∙ ap (drop 1) (g .behind) ∙ drop-drop 1 i places;
         left =
             λ fas.
-            rw (o .stage (settingsOf settings) (lookupOf lookup) fas (kind-is lookup ∙ sym k) (answer-is settings kind m ∙ sym a))
+            rw (o .stage (settingsOf settings) (lookupOf lookup) fas (sym f) (answer-is settings lookup m ∙ sym a))
             (rw (e, responded-is, on) at (g .left fas));
       }
 

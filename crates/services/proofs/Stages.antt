@@ -12,14 +12,14 @@ use borrow.Author.Tests.{ne-eqb, le-leb, lt-ltb}
 use Rattle.meaning.specs.Basics.{if_then_else_, isEmpty, contains}
 use Rattle.meaning.specs.Settings.{Settings, Lookup}
 use Rattle.meaning.specs.Actions.{RN, INPRTG, CDPNNP, ASDLKUP, GRNLKUP, CDIAL}
-use Rattle.meaning.specs.Services.{Stage, atStart, inprtg, rnSet, cdpnnp, asdlkup, grnlkup, cdial, carryOut}
+use Rattle.meaning.specs.Services.{Stage, atStart, unsuccessful, inprtg, rnSet, cdpnnp, asdlkup, grnlkup, cdial, carryOut}
 use Rattle.services.specs.declared.Served.{Served}
 use Rattle.services.specs.declared.Effect.{Effect}
 use Rattle.services.specs.Stages.{stageOf, servedWith, effectAfter, codeListed}
 
--- r is s with an action of document 01 carried out, for lookups of a kind and settings with an answer for it; places behind stay
-pub record CarriesOut (action : Settings → Lookup → List ℕ → Stage → Stage) (kind answer : ℕ) (s r : Served) : Type 0 where
-  pub stage : (settings : Settings) (lookup : Lookup) (fas : List ℕ) → lookup .kind ≡ kind → getD (settings .answers) kind 0 ≡ answer
+-- r is s with an action of document 01 carried out, for settings and lookups under which CDPNNP fails or not, and with an answer of INPRTG; places behind stay
+pub record CarriesOut (action : Settings → Lookup → List ℕ → Stage → Stage) (fails : Bool) (answer : ℕ) (s r : Served) : Type 0 where
+  pub stage : (settings : Settings) (lookup : Lookup) (fas : List ℕ) → unsuccessful settings lookup ≡ fails → getD (settings .answers) (lookup .kind) 0 ≡ answer
       → stageOf settings lookup fas r ≡ action settings lookup fas (stageOf settings lookup fas s)
   pub count : r .count ≡ s .count + 1
   pub behind : drop (s .count + 1) (r .actions) ≡ drop (s .count + 1) (s .actions)
@@ -62,12 +62,12 @@ rn-again settings lookup fas ported s e = rw e (go (eqb (lookup .kind) 2) (eqb (
     go false false false = refl
 
 -- two actions that are the same on every stage
-carries-as : {action other : Settings → Lookup → List ℕ → Stage → Stage} {kind answer : ℕ} {s r : Served}
+carries-as : {action other : Settings → Lookup → List ℕ → Stage → Stage} {fails : Bool} {answer : ℕ} {s r : Served}
     → ((settings : Settings) (lookup : Lookup) (fas : List ℕ) (x : Stage) → action settings lookup fas x ≡ other settings lookup fas x)
-    → CarriesOut action kind answer s r → CarriesOut other kind answer s r
-carries-as {action} {other} {kind} {answer} {s} {r} same o =
+    → CarriesOut action fails answer s r → CarriesOut other fails answer s r
+carries-as {action} {other} {fails} {answer} {s} {r} same o =
     record {
-      stage = λ settings lookup fas k a. o .stage settings lookup fas k a ∙ same settings lookup fas (stageOf settings lookup fas s);
+      stage = λ settings lookup fas f a. o .stage settings lookup fas f a ∙ same settings lookup fas (stageOf settings lookup fas s);
       count = o .count;
       behind = o .behind;
     }
@@ -82,61 +82,61 @@ module _ (actions : List ℕ) (count : ℕ) (e : Effect) (h : count < length act
   abbrev after : ℕ → Effect → Served
   after code r = servedWith (set actions count code) (count + 1) r
 
-  listed : {action : Settings → Lookup → List ℕ → Stage → Stage} {kind answer : ℕ} (code : ℕ) (r : Effect)
-      → ((settings : Settings) (lookup : Lookup) (fas : List ℕ) → lookup .kind ≡ kind → getD (settings .answers) kind 0 ≡ answer
+  listed : {action : Settings → Lookup → List ℕ → Stage → Stage} {fails : Bool} {answer : ℕ} (code : ℕ) (r : Effect)
+      → ((settings : Settings) (lookup : Lookup) (fas : List ℕ) → unsuccessful settings lookup ≡ fails → getD (settings .answers) (lookup .kind) 0 ≡ answer
       → stageOf settings lookup fas (after code r) ≡ action settings lookup fas (stageOf settings lookup fas before))
-      → CarriesOut action kind answer before (after code r)
+      → CarriesOut action fails answer before (after code r)
   listed code r same = record { stage = same; count = refl; behind = behind-stays code before }
 
-  carries-inprtg : (kind answer : ℕ) → CarriesOut inprtg kind answer before (after INPRTG (effectAfter INPRTG kind answer e))
+  carries-inprtg : (fails : Bool) (answer : ℕ) → CarriesOut inprtg fails answer before (after INPRTG (effectAfter INPRTG fails answer e))
   unfolding stageOf inprtg effectAfter
-  carries-inprtg kind answer = listed INPRTG _ (λ settings lookup fas k a. rw (done-more INPRTG before h, k, a))
+  carries-inprtg fails answer = listed INPRTG _ (λ settings lookup fas f a. rw (done-more INPRTG before h, a))
 
-  carries-cdpnnp : (kind answer : ℕ) → CarriesOut cdpnnp kind answer before (after CDPNNP (effectAfter CDPNNP kind answer e))
+  carries-cdpnnp : (fails : Bool) (answer : ℕ) → CarriesOut cdpnnp fails answer before (after CDPNNP (effectAfter CDPNNP fails answer e))
   unfolding stageOf cdpnnp effectAfter
-  carries-cdpnnp kind answer =
+  carries-cdpnnp fails answer =
       listed CDPNNP _
-      (λ settings lookup fas k a.
-      rw (done-more CDPNNP before h, ← k, ← rn-again settings lookup fas (e .ported) (stageOf settings lookup fas before) refl, ← sp-again (eqb (lookup .kind) 3) (e .ported) (lookup .entity)))
+      (λ settings lookup fas f a.
+      rw (done-more CDPNNP before h, f, ← rn-again settings lookup fas (e .ported) (stageOf settings lookup fas before) refl, ← sp-again (eqb (lookup .kind) 3) (e .ported) (lookup .entity)))
 
-  carries-asdlkup : (kind answer : ℕ) → CarriesOut asdlkup kind answer before (after ASDLKUP (effectAfter ASDLKUP kind answer e))
+  carries-asdlkup : (fails : Bool) (answer : ℕ) → CarriesOut asdlkup fails answer before (after ASDLKUP (effectAfter ASDLKUP fails answer e))
   unfolding stageOf asdlkup effectAfter
-  carries-asdlkup kind answer = listed ASDLKUP _ (λ settings lookup fas k a. rw (done-more ASDLKUP before h, ← set-again (isEmpty (lookup .asd)) (e .asd) (lookup .asd) refl))
+  carries-asdlkup fails answer = listed ASDLKUP _ (λ settings lookup fas f a. rw (done-more ASDLKUP before h, ← set-again (isEmpty (lookup .asd)) (e .asd) (lookup .asd) refl))
 
-  carries-grnlkup : (kind answer : ℕ) → CarriesOut grnlkup kind answer before (after GRNLKUP (effectAfter GRNLKUP kind answer e))
+  carries-grnlkup : (fails : Bool) (answer : ℕ) → CarriesOut grnlkup fails answer before (after GRNLKUP (effectAfter GRNLKUP fails answer e))
   unfolding stageOf grnlkup effectAfter
-  carries-grnlkup kind answer = listed GRNLKUP _ (λ settings lookup fas k a. rw (done-more GRNLKUP before h, ← set-again (isEmpty (lookup .grn)) (e .grn) (lookup .grn) refl))
+  carries-grnlkup fails answer = listed GRNLKUP _ (λ settings lookup fas f a. rw (done-more GRNLKUP before h, ← set-again (isEmpty (lookup .grn)) (e .grn) (lookup .grn) refl))
 
-  carries-cdial : (kind answer : ℕ) → CarriesOut cdial kind answer before (after CDIAL (effectAfter CDIAL kind answer e))
+  carries-cdial : (fails : Bool) (answer : ℕ) → CarriesOut cdial fails answer before (after CDIAL (effectAfter CDIAL fails answer e))
   unfolding stageOf cdial effectAfter
-  carries-cdial kind answer = listed CDIAL _ (λ settings lookup fas k a. rw (done-more CDIAL before h))
+  carries-cdial fails answer = listed CDIAL _ (λ settings lookup fas f a. rw (done-more CDIAL before h))
 
   -- every other code is carried out as CDIAL
-  other-effect : (code kind answer : ℕ) → CDIAL < code → effectAfter code kind answer e ≡ effectAfter CDIAL kind answer e
+  other-effect : (code : ℕ) (fails : Bool) (answer : ℕ) → CDIAL < code → effectAfter code fails answer e ≡ effectAfter CDIAL fails answer e
   unfolding effectAfter
-  other-effect code kind answer g =
+  other-effect code fails answer g =
       rw (ne-eqb code INPRTG (λ q. omega arith), ne-eqb code CDPNNP (λ q. omega arith), ne-eqb code ASDLKUP (λ q. omega arith), ne-eqb code GRNLKUP (λ q. omega arith), le-leb CDIAL code (omega arith))
 
   other-listed : (code : ℕ) → CDIAL < code → codeListed code ≡ CDIAL
   unfolding codeListed
   other-listed code g = rw (lt-ltb CDIAL code g)
 
-  other-carries : (kind answer code : ℕ) → CDIAL < code → CarriesOut (carryingOut code) kind answer before (after (codeListed code) (effectAfter code kind answer e))
+  other-carries : (fails : Bool) (answer code : ℕ) → CDIAL < code → CarriesOut (carryingOut code) fails answer before (after (codeListed code) (effectAfter code fails answer e))
   unfolding carryOut
-  other-carries kind answer code g =
-      rw (other-listed code g, other-effect code kind answer g)
+  other-carries fails answer code g =
+      rw (other-listed code g, other-effect code fails answer g)
       (carries-as
       (λ settings lookup fas x.
       rw (ne-eqb code INPRTG (λ q. omega arith), ne-eqb code CDPNNP (λ q. omega arith), ne-eqb code ASDLKUP (λ q. omega arith), ne-eqb code GRNLKUP (λ q. omega arith)))
-      (carries-cdial kind answer))
+      (carries-cdial fails answer))
 
   -- an action by its code
-  pub carries : (kind answer code : ℕ) → 0 < code → CarriesOut (carryingOut code) kind answer before (after (codeListed code) (effectAfter code kind answer e))
+  pub carries : (fails : Bool) (answer code : ℕ) → 0 < code → CarriesOut (carryingOut code) fails answer before (after (codeListed code) (effectAfter code fails answer e))
   unfolding carryOut codeListed
-  carries kind answer zero g = absurd (omega arith)
-  carries kind answer (suc zero) g = carries-as (λ settings lookup fas x. refl) (carries-inprtg kind answer)
-  carries kind answer (suc (suc zero)) g = carries-as (λ settings lookup fas x. refl) (carries-cdpnnp kind answer)
-  carries kind answer (suc (suc (suc zero))) g = carries-as (λ settings lookup fas x. refl) (carries-asdlkup kind answer)
-  carries kind answer (suc (suc (suc (suc zero)))) g = carries-as (λ settings lookup fas x. refl) (carries-grnlkup kind answer)
-  carries kind answer (suc (suc (suc (suc (suc zero))))) g = carries-as (λ settings lookup fas x. refl) (carries-cdial kind answer)
-  carries kind answer (suc (suc (suc (suc (suc (suc n)))))) g = other-carries kind answer (suc (suc (suc (suc (suc (suc n)))))) (omega arith)
+  carries fails answer zero g = absurd (omega arith)
+  carries fails answer (suc zero) g = carries-as (λ settings lookup fas x. refl) (carries-inprtg fails answer)
+  carries fails answer (suc (suc zero)) g = carries-as (λ settings lookup fas x. refl) (carries-cdpnnp fails answer)
+  carries fails answer (suc (suc (suc zero))) g = carries-as (λ settings lookup fas x. refl) (carries-asdlkup fails answer)
+  carries fails answer (suc (suc (suc (suc zero)))) g = carries-as (λ settings lookup fas x. refl) (carries-grnlkup fails answer)
+  carries fails answer (suc (suc (suc (suc (suc zero))))) g = carries-as (λ settings lookup fas x. refl) (carries-cdial fails answer)
+  carries fails answer (suc (suc (suc (suc (suc (suc n)))))) g = other-carries fails answer (suc (suc (suc (suc (suc (suc n)))))) (omega arith)

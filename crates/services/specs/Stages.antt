@@ -46,17 +46,17 @@ servedWith actions count e =
 abbrev pub responseAfter : ℕ → ℕ → ℕ → ℕ
 responseAfter code answer response = if eqb code INPRTG then answer else response
 
-abbrev pub withheldAfter : ℕ → ℕ → Bool → Bool
-withheldAfter code kind withheld = if eqb code CDPNNP then leb kind 1 || withheld else if leb CDIAL code then false else withheld
+abbrev pub withheldAfter : ℕ → Bool → Bool → Bool
+withheldAfter code fails withheld = if eqb code CDPNNP then fails || withheld else if leb CDIAL code then false else withheld
 
 abbrev pub carriedAfter : ℕ → ℕ → Bool → Bool
 carriedAfter code action carried = eqb code action || carried
 
-unfoldable pub effectAfter : ℕ → ℕ → ℕ → Effect → Effect
-effectAfter code kind answer e =
+unfoldable pub effectAfter : ℕ → Bool → ℕ → Effect → Effect
+effectAfter code fails answer e =
     record {
       response = responseAfter code answer (e .response);
-      withheld = withheldAfter code kind (e .withheld);
+      withheld = withheldAfter code fails (e .withheld);
       ported = carriedAfter code CDPNNP (e .ported);
       asd = carriedAfter code ASDLKUP (e .asd);
       grn = carriedAfter code GRNLKUP (e .grn);

@@ -6,9 +6,14 @@ use meaning::sa::CDIAL;
 use meaning::sa::CDPNNP;
 use meaning::sa::GRNLKUP;
 use meaning::sa::INPRTG;
+use meaning::sizes::ACCEPTING_AT;
 use meaning::sizes::ANSWERS_AT;
 ghost use mathlib.Core.Path.{_≡_};
 ghost use Prim.Native.Nat.{_≤_};
+ghost use lib.ListN.{length};
+ghost use Rattle.meaning.specs.Sizes.{SETTINGS-BYTES, LOOKUP-BYTES};
+ghost use Rattle.meaning.specs.Settings.{settingsOf, lookupOf};
+ghost use Rattle.meaning.specs.Services.{unsuccessful};
 ghost use Rattle.services.specs.Stages.{noEffect, servedWith, responseAfter, withheldAfter, carriedAfter, effectAfter, codeListed, Serviceable, ServedFrom, ServedAnew};
 
 // The response RELAY: the stage goes on. It ends at every response above.
@@ -73,12 +78,12 @@ fn response_after(code: u8, answer: u8, response: u8) -> u8
     if code == INPRTG { answer } else { response }
 }
 
-// CDPNNP without an entity is unsuccessful, and formatting is withheld; CDIAL lifts the withholding.
-fn withheld_after(code: u8, kind: u8, withheld: bool) -> bool
-    ensures { λ r. ⌜ r ≡ withheldAfter code kind withheld ⌝ }
+// CDPNNP withholds formatting where it is unsuccessful; CDIAL lifts the withholding.
+fn withheld_after(code: u8, fails: bool, withheld: bool) -> bool
+    ensures { λ r. ⌜ r ≡ withheldAfter code fails withheld ⌝ }
 {
     if code == CDPNNP {
-        return kind <= 1 || withheld;
+        return fails || withheld;
     }
     if CDIAL <= code {
         return false;
@@ -93,13 +98,13 @@ fn carried_after(code: u8, action: u8, carried: bool) -> bool
     code == action || carried
 }
 
-// One action, for a lookup's kind and INPRTG's answer for it: CDPNNP sets RN and SP, ASDLKUP sets ASD, GRNLKUP sets GRN.
-fn carry_out(e: Effect, code: u8, kind: u8, answer: u8) -> Effect
-    ensures { λ r. ⌜ r ≡ effectAfter code kind answer e ⌝ }
+// One action, for whether CDPNNP is unsuccessful and INPRTG's answer: CDPNNP sets RN and SP, ASDLKUP sets ASD, GRNLKUP sets GRN.
+fn carry_out(e: Effect, code: u8, fails: bool, answer: u8) -> Effect
+    ensures { λ r. ⌜ r ≡ effectAfter code fails answer e ⌝ }
 {
     Effect {
         response: response_after(code, answer, e.response),
-        withheld: withheld_after(code, kind, e.withheld),
+        withheld: withheld_after(code, fails, e.withheld),
         ported: carried_after(code, CDPNNP, e.ported),
         asd: carried_after(code, ASDLKUP, e.asd),
         grn: carried_after(code, GRNLKUP, e.grn),
@@ -113,6 +118,15 @@ fn code_listed(code: u8) -> u8
     if CDIAL < code { CDIAL } else { code }
 }
 
+// Whether CDPNNP is unsuccessful: there is no record, or one without entity where the settings do not say that any record is accepted.
+fn is_unsuccessful(settings: &[u8], lookup: &[u8]) -> bool
+    requires { ⌜ (length (now settings) ≡ SETTINGS-BYTES) × (length (now lookup) ≡ LOOKUP-BYTES) ⌝ }
+    ensures { λ r. ⌜ r ≡ unsuccessful (settingsOf (now (settings .entry))) (lookupOf (now (lookup .entry))) ⌝ }
+{
+    let kind = lookup[0];
+    kind == 0 || (kind == 1 && settings[ACCEPTING_AT] == 0)
+}
+
 // The actions in list order, listed over the eight places passed in.
 pub fn serve(sas: &[u8], settings: &[u8], lookup: &[u8], places: [u8; 8]) -> Served
     requires { ⌜ Serviceable (now sas) (now settings) (now lookup) ⌝ }
@@ -120,6 +134,7 @@ pub fn serve(sas: &[u8], settings: &[u8], lookup: &[u8], places: [u8; 8]) -> Ser
 {
     let kind = lookup[0];
     let answer = settings[ANSWERS_AT + wide(kind)];
+    let fails = is_unsuccessful(settings, lookup);
     let mut actions = places;
     let mut e = no_effect();
     let mut i = 0;
@@ -132,7 +147,7 @@ pub fn serve(sas: &[u8], settings: &[u8], lookup: &[u8], places: [u8; 8]) -> Ser
             return served_with(actions, i, e);
         }
         actions[i] = code_listed(code);
-        e = carry_out(e, code, kind, answer);
+        e = carry_out(e, code, fails, answer);
         i += 1;
     }
 }

@@ -1,4 +1,4 @@
-//! The example files: each holds the result that its manual expects.  Beside
+//! The example files: each holds the result that its paper expects.  Beside
 //! them what a record cannot show: the order of actions, the stretches.
 
 use super::support::*;
@@ -21,9 +21,9 @@ fn examples() -> Vec<(String, String)> {
 }
 
 #[test]
-fn every_example_file_gives_what_its_manual_says() {
+fn every_example_file_gives_what_its_paper_says() {
     let examples = examples();
-    assert_eq!(examples.len(), 33);
+    assert_eq!(examples.len(), 34);
     for (name, content) in examples {
         assert!(content.starts_with("# "), "{name} says where it is from");
         let bytes = text::records(&content).expect(&name);

@@ -10,6 +10,7 @@ use crate::plan::Plan;
 use crate::process::Outcome;
 use crate::reached::Reached;
 use crate::rules::*;
+use crate::script::from_hex;
 
 #[test]
 fn record_files_reach_everything() {
@@ -49,6 +50,46 @@ fn the_same_seed_gives_the_same_file() {
         generate::record_file(8, "clean", 50)
     );
     assert_eq!(generate::call_script(7, 50), generate::call_script(7, 50));
+}
+
+/// C-12's byte is 0 and 1 about as often, and at times out of range: in the
+/// openings of files and of scripts, and poked into the memory of scripts.
+#[test]
+fn both_values_of_accepting_and_others() {
+    let [mut in_files, mut in_scripts, mut poked] = [[0; 256]; 3];
+    for seed in 0..200 {
+        let file = generate::record_file(seed, "clean", 100).expect("a kind");
+        for (_, body) in split(&file).iter().filter(|(kind, _)| *kind == Kind::Open) {
+            in_files[usize::from(body[40])] += 1;
+        }
+        for line in generate::call_script(seed, 100).lines() {
+            let opening = line
+                .strip_prefix("open ")
+                .and_then(|hex| from_hex(hex).ok());
+            // A body that is cut has no such byte.
+            if let Some(&byte) = opening.iter().flatten().nth(40) {
+                in_scripts[usize::from(byte)] += 1;
+            }
+            if let Some(value) = line.strip_prefix("poke 48 ") {
+                poked[value.parse::<usize>().expect("a byte")] += 1;
+            }
+        }
+    }
+    for seen in [in_files, in_scripts] {
+        assert!(seen[0] > 100 && seen[0] < 2 * seen[1] && seen[1] < 2 * seen[0]);
+    }
+    for seen in [in_files, in_scripts, poked] {
+        assert!([0, 1, 2, 255].iter().all(|&value| seen[value] > 5));
+    }
+}
+
+/// The openings of the benchmark's files do not accept.
+#[test]
+fn number_files_do_not_accept() {
+    for seed in 0..4 {
+        let file = generate::record_file(seed, "numbers", 1).expect("a kind");
+        assert_eq!((file[0], file[41]), (Kind::Open.byte(), 0));
+    }
 }
 
 /// The records of a file, as long as they are whole.
@@ -261,4 +302,38 @@ fn outcomes_keep_their_shape() {
             assert_eq!(answer.response.is_some(), inprtg);
         }
     }
+}
+
+/// C-12: the byte decides numbers of lookup kind 1 alone, from withheld to
+/// formatted, and does so for more than one number in twenty.
+#[test]
+fn accepting_decides_kind_1_alone() {
+    let (mut numbers, mut decided) = (0, 0);
+    for seed in 300..330 {
+        let mut run = crate::records::Run::default();
+        let file = generate::record_file(seed, "clean", 200).expect("a kind");
+        for (kind, body) in split(&file) {
+            let _ = run.carry_out(kind, &body);
+            let (Kind::Number, Some(plan)) = (kind, &run.plan) else {
+                continue;
+            };
+            let [without, with] = [false, true].map(|accepting| {
+                let mut plan = plan.clone();
+                plan.settings.accepting = accepting;
+                plan.answer(&body)
+            });
+            numbers += 1;
+            if without != with {
+                decided += 1;
+                let number = bodies::number(&body).expect("in range");
+                assert_eq!(number.lookup.kind, LookupKind::NoEntity);
+                assert!(without.is_ok_and(|answer| answer.outcome == Outcome::Unchanged));
+                assert!(match with {
+                    Ok(answer) => answer.outcome == Outcome::Formatted,
+                    Err(refusal) => refusal == Refusal::Long,
+                });
+            }
+        }
+    }
+    assert!(decided * 20 > numbers, "{decided} of {numbers}");
 }

@@ -6,9 +6,12 @@ use crate::calls;
 use crate::layout;
 use crate::rules::{RulePlace, SetNumber};
 
+const OPEN_SMALL: &str =
+    "open sets 3 rules 4 cc 55 dfltrn 0099 a d b ef answers 1 2 3 4 accepting 1";
+
 fn small_plan() -> Bench {
     Bench::new(&[
-        "open sets 3 rules 4 cc 55 dfltrn 0099 a d b ef answers 1 2 3 4",
+        OPEN_SMALL,
         "add-set 0 class 255 ca FPFX,CCDEF,DN7 sa INPRTG,CDPNNP,GRNLKUP fa RN,FPFX,DN,GRN",
         "add-set 2 class 4 ca IGN1,AC2,PFXA4,SNX,CCDEF sa CDPNNP,CDIAL fa PFXA,RN,AC,SN",
         "add-rule NATL 060 10 0",
@@ -24,7 +27,7 @@ fn small_size() -> usize {
 /// The image that the calls make from a memory's own bytes, if all of them
 /// are accepted: by document 01 a sound plan is one that calls can make.
 fn rebuilt(memory: &[u8]) -> Option<Vec<u8>> {
-    let opening = memory.get(8..48)?;
+    let opening = memory.get(8..49)?;
     let (rooms, _) = bodies::opening(opening).ok()?;
     let size = layout::size(rooms);
     let held = memory.get(..size)?;
@@ -53,10 +56,9 @@ fn is_what_calls_make(memory: &[u8]) -> bool {
 fn the_image_is_the_layout_page() {
     let bench = small_plan();
     let memory = &bench.memory;
-    assert_eq!(memory[..8], [78, 80, 80, 49, 0, 3, 0, 0]);
-    let opening = body("open sets 3 rules 4 cc 55 dfltrn 0099 a d b ef answers 1 2 3 4");
-    assert_eq!(memory[8..48], opening);
-    assert_eq!(memory[48..64], [0; 16]);
+    assert_eq!(memory[..8], [78, 80, 80, 50, 0, 3, 0, 0]);
+    assert_eq!(memory[8..49], body(OPEN_SMALL));
+    assert_eq!(memory[49..64], [0; 15]);
     let set =
         body("add-set 2 class 4 ca IGN1,AC2,PFXA4,SNX,CCDEF sa CDPNNP,CDIAL fa PFXA,RN,AC,SN");
     assert_eq!(memory[112..160], [0; 48]);
@@ -253,7 +255,7 @@ fn two_byte_numbers() {
     }
     assert_eq!(
         bench.memory[..12],
-        [78, 80, 80, 49, 1, 44, 0, 0, 4, 0, 16, 0]
+        [78, 80, 80, 50, 1, 44, 0, 0, 4, 0, 16, 0]
     );
     assert_eq!(bench.memory[64 + 48 * 1023], 1);
     assert_eq!(bench.memory[64 + 48 * 1024 + 19..][..2], [1, 2]);

@@ -1,5 +1,5 @@
-//! One test for each place of docs/DECISIONS.md, 'How the papers are read',
-//! that bytes can show.  The numbers are those of that list.
+//! One test for each of the places 1 to 42 of docs/DECISIONS.md that bytes can
+//! show.  The numbers are those of that page.
 
 use super::support::*;
 use crate::calls;

@@ -114,6 +114,7 @@ fn constants() {
         ("OPEN_DELIMITER_A_AT", OPEN_DELIMITER_A),
         ("OPEN_DELIMITER_B_AT", OPEN_DELIMITER_B),
         ("OPEN_ANSWERS_AT", OPEN_ANSWERS),
+        ("OPEN_ACCEPTING_AT", OPEN_ACCEPTING),
         ("SET_NUMBER_AT", SET_NUMBER),
         ("SET_CLASS_AT", SET_CLASS),
         ("SET_CA_AT", SET_CA),

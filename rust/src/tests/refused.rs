@@ -6,6 +6,9 @@ use super::*;
 use crate::{accepted, c, Refusal, RulePlace};
 use std::collections::BTreeMap;
 
+/// Where a plan memory has the byte of C-12 (docs/LAYOUT.md).
+const ACCEPTING_AT: usize = 48;
+
 /// Seeded random numbers (splitmix64).
 struct Random(u64);
 
@@ -355,7 +358,13 @@ fn given(call: &str) -> Vec<Vec<u8>> {
     let any = |set| rule(Class::NATL, "-", 0, set);
     let no_format = |number| set(number, None, &[(ca::CC, 1)], &[], &[]);
     match call {
-        "open" => vec![open55(4, 3), open55(1, 1), open55(4, 4), open55(1025, 1)],
+        "open" => vec![
+            open55(4, 3),
+            accepting55(4, 3),
+            open55(1, 1),
+            open55(4, 4),
+            open55(1025, 1),
+        ],
         "add_set" => vec![s1(3), s2(3), s1(0), s1(4), no_format(3)],
         "replace_set" => vec![s1(0), s2(0), s1(3), s1(4), no_format(0), {
             set(0, None, &[(ca::ZN, 8)], &[], &[])
@@ -412,8 +421,9 @@ fn given(call: &str) -> Vec<Vec<u8>> {
                     .collect()
             };
             let lists: Vec<Vec<u8>> = names.into_iter().zip(PROVISIONING).map(some).collect();
-            let mixed = [lists[0][..41].to_vec(), lists[1].clone(), lists[4].clone()].concat();
-            let unknown = [lists[0][..41].to_vec(), vec![7], lists[3].clone()].concat();
+            let opening = lists[0][..1 + bodies::OPEN_BYTES].to_vec();
+            let mixed = [opening.clone(), lists[1].clone(), lists[4].clone()].concat();
+            let unknown = [opening, vec![7], lists[3].clone()].concat();
             [lists, vec![mixed, unknown]].concat()
         }
         _ => vec![Vec::new()],
@@ -496,6 +506,57 @@ fn what_was_lent_is_as_before() {
         let named = [&[0], call.refusals].concat();
         assert_eq!(reached, named, "the numbers that {} gives", call.name);
     }
+}
+
+/// C-12: the byte of an opening is there, and is 0 or 1; else the old plan stays in force.
+#[test]
+fn openings_with_accepting() {
+    let before = Plan::over(plans().swap_remove(3));
+    for opening in [open55(4, 3), accepting55(4, 3)] {
+        let mut plan = before.clone();
+        let cut = &opening[..bodies::OPEN_ACCEPTING];
+        assert_eq!(cut.len(), 40);
+        assert_eq!(plan.open(cut), Err(Refusal::Cut));
+        for value in 2..=255 {
+            let mut body = opening.clone();
+            body[bodies::OPEN_ACCEPTING] = value;
+            assert_eq!(plan.open(&body), Err(Refusal::Range), "{value}");
+        }
+        assert_eq!(plan, before);
+        assert_eq!(plan.open(&opening), Ok(()));
+        assert_eq!(plan.rule_count(), Ok(0));
+    }
+}
+
+/// C-12: a plan memory whose byte is neither 0 nor 1, or that has the mark of the layout before, draws
+/// PLAN in every call but an opening.
+#[test]
+fn memories_with_accepting() {
+    let mut random = Random(2);
+    let sound = plans().swap_remove(3);
+    assert_eq!(sound[..4], *b"NPP2");
+    let draws_plan = |memory: &[u8], random: &mut Random| {
+        assert!(!Plan::over(memory).is_sound());
+        for call in PROVISIONS.iter().chain(&OTHERS) {
+            let asks_plan = call.refusals.contains(&3);
+            let given = &given(call.name)[0];
+            let mut arguments = arguments(memory, given, random);
+            arguments.out = Lent::new(&[9; 64], random);
+            let number = compare(call, &arguments);
+            assert_eq!(number, if asks_plan { 3 } else { 0 }, "{}", call.name);
+        }
+    };
+    for value in 0..=255 {
+        let mut memory = sound.clone();
+        memory[ACCEPTING_AT] = value;
+        match value {
+            0 | 1 => assert!(Plan::over(&memory).is_sound()),
+            _ => draws_plan(&memory, &mut random),
+        }
+    }
+    let mut memory = sound;
+    memory[..4].copy_from_slice(b"NPP1");
+    draws_plan(&memory, &mut random);
 }
 
 /// A null pointer with length 0 stands for no bytes.

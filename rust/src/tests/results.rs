@@ -1,4 +1,5 @@
-//! What the wrappers give: document 01's run and marked examples, and every kind of memory.
+//! What the wrappers give: document 01's run and marked examples, C-12's example, and every kind of
+//! memory.
 
 use super::*;
 use crate::{
@@ -116,6 +117,30 @@ fn marked_answers() {
     assert_eq!(answer.to_string(), "2 1 4 1 -");
 }
 
+/// C-12's example, S1 with 87654321 and lookup kind 1; no record is unsuccessful under both values. DFLTRN
+/// is not sent.
+#[test]
+fn accepting() {
+    for dfltrn in [&[][..], &[0, 0, 9, 9]] {
+        for (accepting, line) in [(true, "4 1 0 1 87654321"), (false, "3 1 0 1 -")] {
+            let settings = Settings {
+                dfltrn,
+                accepting,
+                ..Settings::of_country(&[5, 5])
+            };
+            let opening = bodies::open(8, 8, &settings).expect("fits");
+            let plan = plan_with(&opening, &[s1(0)], &[rule(Class::NATL, "-", 0, 0)]);
+            let mut out = [0; DIGIT_BUFFER_BYTES];
+            let body = number(Class::NATL, "87654321", &Lookup::NO_ENTITY);
+            let answer = plan.answer(&body, &mut out).expect("an answer");
+            assert_eq!(answer.to_string(), line);
+            let body = number(Class::NATL, "87654321", &Lookup::NO_RECORD);
+            let answer = plan.answer(&body, &mut out).expect("an answer");
+            assert_eq!(answer.to_string(), "3 1 0 1 -");
+        }
+    }
+}
+
 /// M10 and M11.
 #[test]
 fn marked_refusals() {
@@ -152,9 +177,9 @@ fn stretches() {
     assert_eq!(plan.stretch(Class::UNKNOWN, &[16; 15], fa::AC), []);
     // Digits that stand in the plan's own memory, which is only read.
     let plan = plan_with(&open55(8, 8), &[s1(0)], &[rule(Class::NATL, "-", 0, 0)]);
-    let unused = &plan.memory()[48..64];
+    let unused = &plan.memory()[49..64];
     let stretch = plan.stretch(Class::NATL, unused, fa::DN);
-    assert_eq!((stretch.as_ptr(), stretch.len()), (unused.as_ptr(), 16));
+    assert_eq!((stretch.as_ptr(), stretch.len()), (unused.as_ptr(), 15));
 }
 
 /// A rule with a full prefix, and places that are not there.
@@ -282,7 +307,7 @@ fn replayed() {
     assert_eq!(plan.replay(&calls.concat(), &mut []).len(), 0);
     let list = [calls[0].clone(), vec![9], calls[1].clone()].concat();
     assert_eq!(plan.replay(&list, &mut numbers).len(), 1);
-    let cut = &calls.concat()[..41 + 47];
+    let cut = &calls.concat()[..1 + bodies::OPEN_BYTES + bodies::SET_BYTES];
     assert_eq!(plan.replay(cut, &mut numbers).len(), 1);
 }
 

@@ -3,6 +3,7 @@ use Prim.Native.Nat.{_+_, _-_, _≤_, _<_}
 use mathlib.Core.Path.{_≡_, refl, _∙_}
 use native.Mathlib.Omega.{arith}
 use lib.ListN.{length, getD, length-set}
+use Rattle.meaning.specs.Sizes.{ANSWERS-AT}
 use Rattle.services.specs.Stages.{servedWith, codeListed}
 use Rattle.services.proofs.Stages.{carries}
 use Rattle.services.proofs.Going.{Going, going-none, going-more, served-as, served-all, served-responded}
@@ -11,15 +12,15 @@ use Rattle.services.proofs.serve.Statement.{statement}
 use Rattle.services.proofs.serve.Tie as tie
 
 abbrev Inv-loop : tie.InvT-loop
-Inv-loop sas settings lookup kind answer actions₀ e₀ i₀ actions e i =
+Inv-loop sas settings lookup kind answer fails actions₀ e₀ i₀ actions e i =
     (i ≤ length sas) × (length sas ≤ 8) × (length actions ≡ 8) × Going actions₀ sas settings lookup i (servedWith actions i e)
 
 abbrev μ-loop : tie.MeasureT-loop
-μ-loop sas settings lookup kind answer actions₀ e₀ i₀ actions e i = length sas - i
+μ-loop sas settings lookup kind answer fails actions₀ e₀ i₀ actions e i = length sas - i
 
 loop-holds : tie.Need-loop-holds Inv-loop μ-loop
 loop-holds c =
-    let g = c .before .before .before .before .before .before .before in
+    let g = c .before .before .before .before .before .before .before .before in
     (search needs, g .pre .few, search needs, rw (c .no-effect .ensures) (going-none (g .args .places) _ _ _ (search needs)))
 
 returns : tie.Need-returns Inv-loop μ-loop
@@ -46,14 +47,14 @@ loop-again c =
     let l = c .before .before .before .before .before .before .loop in
     let r = c .before .before .before .before .before .code-at .ensures in
     let n = c .before .before .before .before .if1 .left in
-    let w = c .before .before .before .before .before .before .before .before .before .wide .ensures .is in
-    let g = c .before .before .before .before .before .before .before .before .before .before .before .before .before .before in
-    let kind = getD (g .args .lookup .now) 0 0 in
-    let answer = getD (g .args .settings .now) (32 + c .before .before .before .before .before .before .before .before .before .wide .result) 0 in
+    let w = c .before .before .before .before .before .before .before .before .before .before .wide .ensures .is in
+    let f = c .before .before .before .before .before .before .before .before .is-unsuccessful in
+    let g = c .before .before .before .before .before .before .before .before .before .before .before .before .before .before .before in
+    let answer = getD (g .args .settings .now) (ANSWERS-AT + c .before .before .before .before .before .before .before .before .before .before .wide .result) 0 in
     let some : 0 < c .before .before .before .before .before .code-at .result = omega (arith, n) in
-    let o = carries (l .actions) (l .i) (l .e) (omega (arith, l .inv .1, l .inv .2, r .inside n)) kind answer (c .before .before .before .before .before .code-at .result) some in
+    let o = carries (l .actions) (l .i) (l .e) (omega (arith, l .inv .1, l .inv .2, r .inside n)) (f .result) answer (c .before .before .before .before .before .code-at .result) some in
     let long = length-set (l .actions) (l .i) (codeListed (c .before .before .before .before .before .code-at .result)) ∙ l .inv .2 in
-    (r .inside n, l .inv .1, simp length-set (l .inv .2), rw (c .carry-out .ensures, c .before .code-listed .ensures) (going-more (l .inv .3) (r .goes n) (c .before .before .if2 .left) long refl (search needs) (rw w) o))
+    (r .inside n, l .inv .1, simp length-set (l .inv .2), rw (c .carry-out .ensures, c .before .code-listed .ensures) (going-more (l .inv .3) (r .goes n) (c .before .before .if2 .left) long (f .ensures) (search needs) (rw w) o))
 
 pub serve-spec : {M : Type 1} → statement M
 serve-spec =
@@ -65,6 +66,7 @@ serve-spec =
     (λ c κs. search needs)
     (λ c. search needs)
     (λ c. search needs)
+    (λ c κs. search needs)
     (λ c κs. search needs)
     loop-holds
     (λ c κs. search needs)
