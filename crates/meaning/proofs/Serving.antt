@@ -1,9 +1,7 @@
 -- What each service action keeps, and a list of them.
 use Prim.Native.Nat.{ℕ}
-use mathlib.Core.Bool.{Bool, true, false}
 use mathlib.Core.List.{List, [], _∷_}
 use lib.Dec.{eqb}
-use Rattle.meaning.specs.Basics.{if_then_else_}
 use Rattle.meaning.specs.Settings.{Settings, Lookup}
 use Rattle.meaning.specs.Actions.{INPRTG, CDPNNP, ASDLKUP, GRNLKUP}
 use Rattle.meaning.specs.Services.{Stage, responded, inprtg, cdpnnp, asdlkup, grnlkup, cdial, carryOut, serve}

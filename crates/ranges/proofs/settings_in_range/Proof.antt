@@ -1,5 +1,5 @@
 -- Each answer is the test that failed, or the last one.
-use mathlib.Core.Path.{sym, _∙_}
+use mathlib.Core.Path.{sym}
 use mathlib.Core.Bool.{and-true}
 use Rattle.meaning.specs.Settings.{settingsRanges, settingsInRange}
 use Rattle.meaning.proofs.Tests.{all-false}

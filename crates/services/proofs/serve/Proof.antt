@@ -1,6 +1,6 @@
 -- What is left of the list, from the stage reached, decides (`Going`).
 use Prim.Native.Nat.{_+_, _-_, _≤_, _<_}
-use mathlib.Core.Path.{_≡_, refl, _∙_}
+use mathlib.Core.Path.{_≡_, _∙_}
 use native.Mathlib.Omega.{arith}
 use lib.ListN.{length, getD, length-set}
 use Rattle.meaning.specs.Sizes.{ANSWERS-AT}
