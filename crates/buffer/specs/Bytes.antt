@@ -1,11 +1,11 @@
--- Bytes as numbers, and two-byte numbers in a list of bytes.
+-- Bytes as numbers, and numbers of two and four bytes in a list of bytes.
 use Prim.Native.Nat.{ℕ, _+_, _/_, _%_, _<_}
 use mathlib.Core.Path.{_≡_}
 use mathlib.Core.List.{List}
 use mathlib.Core.Bool.{Bool}
 use lib.ListN.{set}
 use lib.Dec.{leb}
-use Rattle.meaning.specs.Basics.{word}
+use Rattle.meaning.specs.Basics.{word, quad}
 
 -- r is the byte x
 pub record Byte (x r : ℕ) : Type 0 where
@@ -20,6 +20,11 @@ atMost top x = leb x top
 pub record Word (b : List ℕ) (at r : ℕ) : Type 0 where
   pub is : r ≡ word b at
   pub small : r < 65536
+
+-- r is the four-byte number at a place
+pub record Quad (b : List ℕ) (at r : ℕ) : Type 0 where
+  pub is : r ≡ quad b at
+  pub small : r < 4294967296
 
 -- the bytes with v at a place, "high byte first"
 unfoldable pub withWord : List ℕ → ℕ → ℕ → List ℕ

@@ -4,7 +4,7 @@ ghost use mathlib.Core.List.{_++_, [], _∷_};
 ghost use Prim.Native.Nat.{_+_, _*_, _-_, _<_, _≤_};
 ghost use lib.ListN.{length, take, drop};
 ghost use Rattle.meaning.specs.Basics.{writtenOver, all, isZero, isDigit};
-ghost use Rattle.buffer.specs.Bytes.{Byte, Word, atMost, withWord};
+ghost use Rattle.buffer.specs.Bytes.{Byte, Word, Quad, atMost, withWord};
 ghost use Rattle.buffer.specs.Zeros.{zeros};
 ghost use Rattle.buffer.specs.Slots.{slots, withSlots, insertAt, removeAt};
 
@@ -88,6 +88,14 @@ pub fn word(b: &[u8], at: usize) -> usize
     ensures { λ r. ⌜ Word (now (b .entry)) at r ⌝ }
 {
     wide(b[at]) * 256 + wide(b[at + 1])
+}
+
+// The four-byte number at `at`, high byte first.
+pub fn quad(b: &[u8], at: usize) -> usize
+    requires { ⌜ at + 3 < length (now b) ⌝ }
+    ensures { λ r. ⌜ Quad (now (b .entry)) at r ⌝ }
+{
+    word(b, at) * 65536 + word(b, at + 2)
 }
 
 // Stores v at `at` in two bytes.

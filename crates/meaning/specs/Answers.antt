@@ -3,10 +3,11 @@ use Prim.Native.Nat.{ℕ, Ordering, Ordering·lt, Ordering·eq, Ordering·gt}
 use mathlib.Core.Path.{_≡_}
 use mathlib.Core.List.{List, [], _∷_}
 use mathlib.Core.Option.{Option, none, some}
+use lib.IntN.{ℤ}
 use lib.ListN.{length, replicate}
 use lib.Dec.{eqb}
 use Rattle.meaning.specs.Basics.{if_then_else_, padded}
-use Rattle.meaning.specs.Refusals.{ACCEPTED, CUT, KIND, PLAN, ROOM, RANGE, GROUPS, TAKEN, ABSENT, MISFIT, FULL, IN-USE, SHORT, LONG}
+use Rattle.meaning.specs.Refusals.{ACCEPTED, CUT, KIND, PLAN, ROOM, RANGE, GROUPS, TAKEN, ABSENT, MISFIT, FULL, IN-USE, SHORT, LONG, NO-PRICE, LEDGER-FULL}
 use Rattle.meaning.specs.Settings.{isClass, AS-INCOMING}
 use Rattle.meaning.specs.Answer.{Answer}
 use Rattle.meaning.specs.Conditioning.{Stretch}
@@ -19,7 +20,7 @@ use Rattle.meaning.specs.declared.OutgoingOf.the-variants.{Given, AsInco
 use Rattle.meaning.specs.declared.SetNumber.{SetNumber}
 use Rattle.meaning.specs.declared.RulePlace.{RulePlace}
 use Rattle.meaning.specs.declared.Refusal.{Refusal}
-use Rattle.meaning.specs.declared.Refusal.the-variants.{Cut, Kind, Plan, Room, Range, Groups, Taken, Absent as AbsentRefusal, Misfit, Full, InUse, Short, Long}
+use Rattle.meaning.specs.declared.Refusal.the-variants.{Cut, Kind, Plan, Room, Range, Groups, Taken, Absent as AbsentRefusal, Misfit, Full, InUse, Short, Long, NoPrice, LedgerFull}
 use Rattle.meaning.specs.declared.Provisioned.{Provisioned}
 use Rattle.meaning.specs.declared.Provisioned.the-variants.{Accepted, Refused as NotProvisioned}
 use Rattle.meaning.specs.declared.Written.{Written}
@@ -31,6 +32,9 @@ use Rattle.meaning.specs.declared.Chosen.the-variants.{At, NoRule}
 use Rattle.meaning.specs.declared.Order.{Order}
 use Rattle.meaning.specs.declared.Order.the-variants.{Before, Same, After}
 use Rattle.meaning.specs.declared.Answered.{Answered}
+use Rattle.meaning.specs.declared.Loss.{Loss}
+use Rattle.meaning.specs.declared.LossAnswer.{LossAnswer}
+use Rattle.meaning.specs.declared.LossAnswer.the-variants.{«Loss» as LossOf, NoRecords, Refused as NotRead}
 use Rattle.meaning.specs.declared.Span.{Span}
 use Rattle.meaning.specs.declared.ListedRule.{ListedRule}
 
@@ -73,6 +77,8 @@ numberOfRefusal Full = FULL
 numberOfRefusal InUse = IN-USE
 numberOfRefusal Short = SHORT
 numberOfRefusal Long = LONG
+numberOfRefusal NoPrice = NO-PRICE
+numberOfRefusal LedgerFull = LEDGER-FULL
 
 -- 0 for an accepted call
 abbrev pub numberOfProvisioned : Provisioned → ℕ
@@ -139,3 +145,10 @@ answeredAs a =
 
 abbrev pub spanOf : Stretch → Span
 spanOf s = record { start = s .start; count = s .count }
+
+-- A LOSS: the refusal number or 0, and the loss in units and in whole cents
+
+abbrev pub lossGiven : LossAnswer → ℕ × Option (ℤ × ℤ)
+lossGiven (LossOf l) = (0, some (l .units, l .cents))
+lossGiven NoRecords = (0, none)
+lossGiven (NotRead r) = (numberOfRefusal r, none)

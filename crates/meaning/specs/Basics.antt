@@ -78,6 +78,10 @@ sameBytes (x ∷ xs) (y ∷ ys) = eqb x y && sameBytes xs ys
 abbrev pub word : List ℕ → ℕ → ℕ
 word b at = getD b at 0 * 256 + getD b (at + 1) 0
 
+-- C-11: "4 bytes, high byte first as in every number here": the number at place `at`
+abbrev pub quad : List ℕ → ℕ → ℕ
+quad b at = word b at * 65536 + word b (at + 2)
+
 -- "A digit is 0 to 15, one per byte"
 abbrev pub isDigit : ℕ → Bool
 isDigit d = leb d 15

@@ -5,8 +5,8 @@ use mathlib.Core.List.{List, [], _∷_}
 use mathlib.Core.Option.{Option, none, some}
 use lib.ListN.{length, take, getD}
 use lib.Dec.{leb, ltb, eqb}
-use Rattle.meaning.specs.Sizes.{ROOMS-BYTES, SETTINGS-BYTES, OPENING-BYTES, SET-NUMBER-BYTES, CONTENT-BYTES, SET-BODY, FILTER-BYTES, SET-AT, RULE-BODY, NUMBER-BYTES}
-use Rattle.meaning.specs.Basics.{if_then_else_, all, any, isSome, isZero, part, word}
+use Rattle.meaning.specs.Sizes.{ROOMS-BYTES, SETTINGS-BYTES, OPENING-BYTES, SET-NUMBER-BYTES, CONTENT-BYTES, SET-BODY, FILTER-BYTES, SET-AT, RULE-BODY, NUMBER-BYTES, CALL-BYTES, PRICE-BODY}
+use Rattle.meaning.specs.Basics.{if_then_else_, within, all, any, isSome, isZero, part, word}
 use Rattle.meaning.specs.Refusals.{CUT, PLAN, ROOM, RANGE, GROUPS, TAKEN, ABSENT, MISFIT, FULL, IN-USE, Line, firstOf}
 use Rattle.meaning.specs.Settings.{Rooms, roomsOf, roomsInRange, settingsInRange, bytesNeeded}
 use Rattle.meaning.specs.Filters.{Filter, filterOf, filterInRange}
@@ -60,21 +60,34 @@ REFS = 8
 abbrev pub LIST : ℕ
 LIST = 9
 
+-- C-11: "A call record is kind 16"; "Kind 17 adds a row"; "kind 18, no body, a line for each district"
+abbrev pub CALL : ℕ
+CALL = 16
+
+abbrev pub PRICE : ℕ
+PRICE = 17
+
+abbrev pub LOSSES : ℕ
+LOSSES = 18
+
 abbrev pub kinds : List ℕ
-kinds = OPEN-PLAN ∷ ADD-SET ∷ REPLACE-SET ∷ REMOVE-SET ∷ ADD-RULE ∷ CHANGE-RULE ∷ REMOVE-RULE ∷ NUMBER ∷ REFS ∷ LIST ∷ []
+kinds =
+    OPEN-PLAN ∷ ADD-SET ∷ REPLACE-SET ∷ REMOVE-SET ∷ ADD-RULE ∷ CHANGE-RULE ∷ REMOVE-RULE ∷ NUMBER ∷ REFS ∷ LIST ∷ CALL ∷ PRICE ∷ LOSSES ∷ []
 
 -- KIND: "unknown kind byte" is where this is false
 unfoldable pub isKind : ℕ → Bool
-isKind k = leb k LIST
+isKind k = leb k LIST || within CALL LOSSES k
 
 -- the kinds of the calls that open and provision: "Kinds 0 to 6 write `ok`"
 unfoldable pub isCall : ℕ → Bool
 isCall k = leb k REMOVE-RULE
 
--- "a body whose length the kind fixes", in the order of the kinds
+-- "a body whose length the kind fixes": of kinds 0 to 9, of 10 to 15, which are no kinds, and of 16 to 18
 abbrev pub bodyLengths : List ℕ
 bodyLengths =
-    OPENING-BYTES ∷ SET-BODY ∷ SET-BODY ∷ SET-NUMBER-BYTES ∷ RULE-BODY ∷ RULE-BODY ∷ FILTER-BYTES ∷ NUMBER-BYTES ∷ SET-NUMBER-BYTES ∷ 0 ∷ []
+    OPENING-BYTES ∷ SET-BODY ∷ SET-BODY ∷ SET-NUMBER-BYTES ∷ RULE-BODY ∷ RULE-BODY ∷ FILTER-BYTES ∷ NUMBER-BYTES ∷ SET-NUMBER-BYTES ∷ 0
+    ∷ 0 ∷ 0 ∷ 0 ∷ 0 ∷ 0 ∷ 0
+    ∷ CALL-BYTES ∷ PRICE-BODY ∷ 0 ∷ []
 
 unfoldable pub bodyLength : ℕ → ℕ
 bodyLength k = getD bodyLengths k 0

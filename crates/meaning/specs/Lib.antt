@@ -19,6 +19,10 @@ pub mod Calls
 pub mod Bodies
 pub mod LookBack
 pub mod History
+pub mod Prices
+pub mod Priced
+pub mod Ledger
+pub mod Charges
 pub mod Records
 pub mod Answers
 pub mod Examples

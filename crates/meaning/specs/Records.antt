@@ -1,18 +1,23 @@
--- Document 01, "House records": the text that a file of records gives.
+-- Document 01, "House records", and the records of C-11: the text that a file of records gives.
 use Prim.Native.Nat.{ℕ, zero, suc, _+_, _/_, _%_}
 use mathlib.Core.Bool.{Bool, true, false, _||_, not}
 use mathlib.Core.List.{List, [], _∷_, _++_, map}
 use mathlib.Core.Option.{Option, none, some}
+use lib.IntN.{ℤ, pos, negsuc}
 use lib.ListN.{length, take, drop}
 use lib.Dec.{ltb, eqb}
-use Rattle.meaning.specs.Sizes.{DIGIT-ROOM, RUN-SETS, RUN-RULES}
+use Rattle.meaning.specs.Sizes.{DIGIT-ROOM, DISTRICTS, RUN-SETS, RUN-RULES}
 use Rattle.meaning.specs.Basics.{if_then_else_, isZero, word}
 use Rattle.meaning.specs.Refusals.{CUT, KIND, PLAN}
 use Rattle.meaning.specs.Settings.{roomsOf}
 use Rattle.meaning.specs.Plan.{Plan}
 use Rattle.meaning.specs.Answer.{Answer, answer}
 use Rattle.meaning.specs.Reads.{Count, referrerCount, Listed, listing}
-use Rattle.meaning.specs.Calls.{NUMBER, REFS, isKind, isCall, bodyLength, callOf, refusal, after}
+use Rattle.meaning.specs.Prices.{PriceRow, priceRefusal, rowsAfter}
+use Rattle.meaning.specs.Ledger.{Ledger, emptyLedger, totalsAt, lossOf, cents, hasRecords}
+use Rattle.meaning.specs.Charges.{charged, ledgerAfter}
+use Rattle.meaning.specs.declared.Totals.{Totals}
+use Rattle.meaning.specs.Calls.{NUMBER, REFS, LIST, CALL, PRICE, isKind, isCall, bodyLength, callOf, refusal, after}
 
 -- TEXT, as ASCII bytes
 
@@ -90,34 +95,72 @@ abbrev pub listText : Option Plan → List ℕ
 listText none = noLine PLAN
 listText (some p) = listedLines (listing p) ++ endLine (length (listing p))
 
+-- THE LOSSES (C-11)
+
+-- in decimal, with a sign below zero: "as `17 -1`"
+abbrev pub signedDecimal : ℤ → List ℕ
+signedDecimal (pos n) = decimal n
+signedDecimal (negsuc n) = 45 ∷ decimal (suc n)
+
+-- "a line for each district .. and its loss"; "Only the printed line rounds, once"
+unfoldable pub lossLine : ℕ → Totals → List ℕ
+lossLine d t = line (decimal d ∷ signedDecimal (cents (lossOf t)) ∷ [])
+
+-- "then `total` and the grand loss"
+unfoldable pub totalLine : Totals → List ℕ
+totalLine t = line ((116 ∷ 111 ∷ 116 ∷ 97 ∷ 108 ∷ []) ∷ signedDecimal (cents (lossOf t)) ∷ [])
+
+-- "each district with records, rising": of n districts from d on
+abbrev pub lossLines : List ℤ → ℕ → ℕ → List ℕ
+lossLines ns d zero = []
+lossLines ns d (suc n) = (if hasRecords (totalsAt ns d) then lossLine d (totalsAt ns d) else []) ++ lossLines ns (d + 1) n
+
+unfoldable pub lossText : Ledger → List ℕ
+lossText l = lossLines (l .districts) 0 DISTRICTS ++ totalLine (l .whole)
+
 -- A RUN
 
 -- "A program run uses at most 64 sets and 512 rules (more is ROOM there)": by each room (docs/DECISIONS.md, 1)
 unfoldable pub lacksProgramRoom : List ℕ → Bool
 lacksProgramRoom rooms = ltb RUN-SETS ((roomsOf rooms) .sets) || ltb RUN-RULES ((roomsOf rooms) .rules)
 
--- the state of a run: the plan in force, none where the memory holds no sound plan
+-- the state of a run: the plan in force, none where the memory holds no sound plan; the rows of its price list, and its ledger
 pub record House : Type 0 where
   pub plan : Option Plan
+  pub rows : List PriceRow
+  pub ledger : Ledger
 
--- the same with another plan
+abbrev pub houseWith : Option Plan → List PriceRow → Ledger → House
+houseWith s rs l = record { plan = s; rows = rs; ledger = l }
+
+-- "an opening leaves rows and ledger", and so does every call that provisions
 abbrev pub withPlan : Option Plan → House → House
-withPlan s h = record { plan = s }
+withPlan s h = houseWith s (h .rows) (h .ledger)
 
--- "Plan memory isn't sound until an opening is accepted"
+abbrev pub rowsOr : List PriceRow → Option (List PriceRow) → List PriceRow
+rowsOr rs none = rs
+rowsOr rs (some new) = new
+
+-- "Plan memory isn't sound until an opening is accepted"; no row and no record yet
 abbrev pub newHouse : House
-newHouse = record { plan = none }
+newHouse = houseWith none [] emptyLedger
 
--- what a record writes
+-- what a record writes: "Kind 16 writes the number's line", "Kind 17 .. writes `ok`"
 unfoldable pub recordText : House → ℕ → List ℕ → List ℕ
 recordText h k body =
     if isCall k then acceptedLine (refusal lacksProgramRoom (h .plan) (callOf k body)) else
     if eqb k NUMBER then numberLine (answer (h .plan) DIGIT-ROOM body) else
-    if eqb k REFS then refsLine (referrerCount (h .plan) (word body 0)) else listText (h .plan)
+    if eqb k REFS then refsLine (referrerCount (h .plan) (word body 0)) else
+    if eqb k LIST then listText (h .plan) else
+    if eqb k CALL then numberLine (charged (h .plan) (some (h .rows)) (h .ledger) DIGIT-ROOM body) else
+    if eqb k PRICE then acceptedLine (priceRefusal (some (h .rows)) body) else lossText (h .ledger)
 
--- the state behind a record
+-- the state behind a record: "Kinds 17 and 18 don't look at the plan"
 unfoldable pub recordHouse : House → ℕ → List ℕ → House
-recordHouse h k body = if isCall k then withPlan (after lacksProgramRoom (h .plan) (callOf k body)) h else h
+recordHouse h k body =
+    if isCall k then withPlan (after lacksProgramRoom (h .plan) (callOf k body)) h else
+    if eqb k CALL then houseWith (h .plan) (h .rows) (ledgerAfter (h .plan) (some (h .rows)) (h .ledger) DIGIT-ROOM body) else
+    if eqb k PRICE then houseWith (h .plan) (rowsOr (h .rows) (rowsAfter (some (h .rows)) body)) (h .ledger) else h
 
 -- "One byte of kind, then a body"; "KIND before CUT"; "After KIND or CUT reading ends"; `fuel` bounds how many records
 abbrev pub textFrom : ℕ → House → List ℕ → List ℕ

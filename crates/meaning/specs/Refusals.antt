@@ -1,4 +1,4 @@
--- Document 01, "Refusal numbers": the thirteen by name, and how a list of checks in order gives the one that is answered.
+-- Document 01, "Refusal numbers": the thirteen by name, the two of C-11, and how a list of checks in order gives the one that is answered.
 use Prim.Native.Nat.{ℕ}
 use mathlib.Core.Bool.{Bool}
 use mathlib.Core.List.{List, [], _∷_}
@@ -45,6 +45,12 @@ SHORT = 12
 
 abbrev pub LONG : ℕ
 LONG = 13
+
+abbrev pub NO-PRICE : ℕ
+NO-PRICE = 14
+
+abbrev pub LEDGER-FULL : ℕ
+LEDGER-FULL = 15
 
 -- one check of a call: when it refuses, and with which number
 abbrev pub Line : Type 0

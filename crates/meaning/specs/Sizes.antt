@@ -1,4 +1,4 @@
--- Every width of a body and of the plan's memory, and every place in them that more than one crate looks at: each said once.
+-- Every width of a body and of lent memory, and every place in them that more than one crate looks at: each said once.
 -- src/sizes.rt has the same for the code; `sizes` ties the two.
 use Prim.Native.Nat.{ℕ, _+_, _*_}
 use mathlib.Core.List.{List, [], _∷_}
@@ -123,9 +123,35 @@ VALUE-BYTES = LOOKUP-AT + LOOKUP-BYTES
 abbrev pub NUMBER-BYTES : ℕ
 NUMBER-BYTES = VALUE-BYTES
 
--- a record is its kind and its body; no body is longer than a number's
+-- A CALL RECORD (C-11): "account (4 bytes ..), district (2 ..), seconds (4 ..), billed (4 ..), then a number record's body"
+
+abbrev pub DISTRICT-AT : ℕ
+DISTRICT-AT = 4
+
+abbrev pub SECONDS-AT : ℕ
+SECONDS-AT = DISTRICT-AT + 2
+
+abbrev pub BILLED-AT : ℕ
+BILLED-AT = SECONDS-AT + 4
+
+-- where the number's body begins
+abbrev pub CALL-HEAD : ℕ
+CALL-HEAD = BILLED-AT + 4
+
+abbrev pub CALL-BYTES : ℕ
+CALL-BYTES = CALL-HEAD + NUMBER-BYTES
+
+-- A ROW OF A PRICE LIST (C-11): "prefix 1+16, price 4"
+
+abbrev pub CODE-BYTES : ℕ
+CODE-BYTES = 1 + 16
+
+abbrev pub PRICE-BODY : ℕ
+PRICE-BODY = CODE-BYTES + 4
+
+-- a record is its kind and its body; no body is longer than a call record's
 abbrev pub LONGEST-RECORD : ℕ
-LONGEST-RECORD = 1 + NUMBER-BYTES
+LONGEST-RECORD = 1 + CALL-BYTES
 
 -- ROOM: "digit buffer under 35"
 abbrev pub DIGIT-ROOM : ℕ
@@ -170,6 +196,32 @@ SET-WIDTH = COUNT-AT + 2
 abbrev pub RULE-WIDTH : ℕ
 RULE-WIDTH = RULE-BODY + 3
 
+-- THE MEMORY OF A PRICE LIST (docs/LAYOUT.md): the count of rows, and a slot for each of "up to 256 rows"; a row's slot has the shape of a rule's, with the
+-- price from where a rule has its set, and a byte behind it
+
+abbrev pub PRICE-ROOM : ℕ
+PRICE-ROOM = 256
+
+abbrev pub ROWS-AT : ℕ
+ROWS-AT = 2
+
+abbrev pub PRICE-AT : ℕ
+PRICE-AT = SET-AT
+
+abbrev pub PRICE-END : ℕ
+PRICE-END = PRICE-AT + 4
+
+abbrev pub PRICES-BYTES : ℕ
+PRICES-BYTES = ROWS-AT + RULE-WIDTH * PRICE-ROOM
+
+-- A LEDGER (C-11): "district (2, up to 511)"; "count, due and billed for each district", a signed number each
+
+abbrev pub DISTRICTS : ℕ
+DISTRICTS = 512
+
+abbrev pub LEDGER-NUMBERS : ℕ
+LEDGER-NUMBERS = 3 * DISTRICTS
+
 -- A RUN OF THE PROGRAM: "at most 64 sets and 512 rules", and the bytes that such a plan needs
 
 abbrev pub RUN-SETS : ℕ
@@ -187,5 +239,5 @@ sizes =
     ROOMS-BYTES ∷ COUNTRY-AT ∷ COUNTRY-DIGITS-AT ∷ DFLTRN-AT ∷ DELIMITER-A-AT ∷ DELIMITER-B-AT ∷ ANSWERS-AT ∷ ANSWERS-END ∷ ACCEPTING-AT ∷ SETTINGS-BYTES
     ∷ OPENING-BYTES ∷ SET-NUMBER-BYTES ∷ OUTGOING-AT ∷ CA-AT ∷ SA-AT ∷ FA-AT ∷ FA-END ∷ CONTENT-BYTES ∷ SET-BODY ∷ CLASS-AT ∷ PREFIX-AT
     ∷ PREFIX-DIGITS-AT ∷ LENGTH-AT ∷ FILTER-BYTES ∷ SET-AT ∷ RULE-BODY ∷ DIALLED-AT ∷ DIALLED-DIGITS-AT ∷ LOOKUP-AT ∷ ENTITY-IN ∷ ASD-IN ∷ GRN-IN
-    ∷ LOOKUP-BYTES ∷ VALUE-BYTES ∷ NUMBER-BYTES ∷ LONGEST-RECORD ∷ DIGIT-ROOM ∷ HEADER-BYTES ∷ RULES-AT ∷ ROOMS-AT ∷ ROOMS-END ∷ SETTINGS-AT
-    ∷ SETTINGS-END ∷ SETS-AT ∷ CONTENT-AT ∷ COUNT-AT ∷ SET-WIDTH ∷ RULE-WIDTH ∷ RUN-SETS ∷ RUN-RULES ∷ RUN-BYTES ∷ []
+    ∷ LOOKUP-BYTES ∷ VALUE-BYTES ∷ NUMBER-BYTES ∷ DISTRICT-AT ∷ SECONDS-AT ∷ BILLED-AT ∷ CALL-HEAD ∷ CALL-BYTES ∷ CODE-BYTES ∷ PRICE-BODY ∷ LONGEST-RECORD ∷ DIGIT-ROOM ∷ HEADER-BYTES ∷ RULES-AT ∷ ROOMS-AT ∷ ROOMS-END ∷ SETTINGS-AT
+    ∷ SETTINGS-END ∷ SETS-AT ∷ CONTENT-AT ∷ COUNT-AT ∷ SET-WIDTH ∷ RULE-WIDTH ∷ PRICE-ROOM ∷ ROWS-AT ∷ PRICE-AT ∷ PRICE-END ∷ PRICES-BYTES ∷ DISTRICTS ∷ LEDGER-NUMBERS ∷ RUN-SETS ∷ RUN-RULES ∷ RUN-BYTES ∷ []

@@ -2,9 +2,11 @@
 ghost use mathlib.Core.Path.{_≡_};
 ghost use Rattle.meaning.specs.Calls.{kinds, isKind, isCall};
 ghost use Rattle.meaning.specs.Bodies.{BodyBytes};
+use crate::sizes::CALL_BYTES;
 use crate::sizes::FILTER_BYTES;
 use crate::sizes::NUMBER_BYTES;
 use crate::sizes::OPENING_BYTES;
+use crate::sizes::PRICE_BODY;
 use crate::sizes::RULE_BODY;
 use crate::sizes::SET_BODY;
 use crate::sizes::SET_NUMBER_BYTES;
@@ -31,8 +33,15 @@ pub const REFS: u8 = 8;
 
 pub const LIST: u8 = 9;
 
+// The records of C-11: a call, a row of the price list, the losses.
+pub const CALL: u8 = 16;
+
+pub const PRICE: u8 = 17;
+
+pub const LOSSES: u8 = 18;
+
 // All of them, in this order: each is its twin.
-pub fn kinds() -> [u8; 10]
+pub fn kinds() -> [u8; 13]
     ensures { λ r. ⌜ r ≡ kinds ⌝ }
 {
     [
@@ -46,6 +55,9 @@ pub fn kinds() -> [u8; 10]
         NUMBER,
         REFS,
         LIST,
+        CALL,
+        PRICE,
+        LOSSES,
     ]
 }
 
@@ -63,6 +75,8 @@ pub fn body_length(kind: u8) -> usize
         REMOVE_RULE => FILTER_BYTES,
         NUMBER => NUMBER_BYTES,
         REFS => SET_NUMBER_BYTES,
+        CALL => CALL_BYTES,
+        PRICE => PRICE_BODY,
         _ => 0,
     }
 }
@@ -71,7 +85,13 @@ pub fn body_length(kind: u8) -> usize
 pub fn is_kind(kind: u8) -> bool
     ensures { λ r. ⌜ r ≡ isKind kind ⌝ }
 {
-    kind <= LIST
+    if kind <= LIST {
+        return true;
+    }
+    if kind < CALL {
+        return false;
+    }
+    kind <= LOSSES
 }
 
 // Whether it is the kind of a call that opens or provisions.

@@ -82,7 +82,7 @@ pub struct SetNumber(pub u16);
 // A rule's place in the listing.
 pub struct RulePlace(pub u16);
 
-// Document 01's refusals.
+// The refusals of document 01 and of C-11.
 pub enum Refusal {
     Cut,
     Kind,
@@ -97,6 +97,8 @@ pub enum Refusal {
     InUse,
     Short,
     Long,
+    NoPrice,
+    LedgerFull,
 }
 
 impl Refusal {
@@ -118,6 +120,8 @@ impl Refusal {
             Refusal::InUse => refusals::IN_USE,
             Refusal::Short => refusals::SHORT,
             Refusal::Long => refusals::LONG,
+            Refusal::NoPrice => refusals::NO_PRICE,
+            Refusal::LedgerFull => refusals::LEDGER_FULL,
         }
     }
 }
@@ -199,4 +203,31 @@ pub struct ListedRule {
     pub prefix: [u8; 16],
     pub length: u8,
     pub set: SetNumber,
+}
+
+// What a ledger holds of a district, or of the whole: how many records, and their due and billed in sixtieths of a thousandth of a cent.
+#[repr(C)]
+pub struct Totals {
+    pub count: i64,
+    pub due: i64,
+    pub billed: i64,
+}
+
+// What taking a call record answers: the number's answer, and the whole's totals afterwards.
+pub struct Taken {
+    pub answer: Answered,
+    pub whole: Totals,
+}
+
+// A loss: in sixtieths of a thousandth of a cent, and in whole cents.
+pub struct Loss {
+    pub units: i64,
+    pub cents: i64,
+}
+
+// What a call that reads a loss answers.
+pub enum LossAnswer {
+    Loss(Loss),
+    NoRecords,
+    Refused(Refusal),
 }

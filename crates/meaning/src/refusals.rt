@@ -1,4 +1,4 @@
-// Document 01's numbers of the refusals: the twin of specs/Refusals.antt. `Refusal::number` ties the two.
+// The numbers of the refusals of document 01 and of C-11: the twin of specs/Refusals.antt. `Refusal::number` ties the two.
 pub const ACCEPTED: u8 = 0;
 
 pub const CUT: u8 = 1;
@@ -26,3 +26,7 @@ pub const IN_USE: u8 = 11;
 pub const SHORT: u8 = 12;
 
 pub const LONG: u8 = 13;
+
+pub const NO_PRICE: u8 = 14;
+
+pub const LEDGER_FULL: u8 = 15;

@@ -79,7 +79,24 @@ pub const VALUE_BYTES: usize = LOOKUP_AT + LOOKUP_BYTES;
 
 pub const NUMBER_BYTES: usize = VALUE_BYTES;
 
-pub const LONGEST_RECORD: usize = 1 + NUMBER_BYTES;
+// A CALL RECORD: behind its account the district, the seconds and the billed, then a number.
+pub const DISTRICT_AT: usize = 4;
+
+pub const SECONDS_AT: usize = DISTRICT_AT + 2;
+
+pub const BILLED_AT: usize = SECONDS_AT + 4;
+
+pub const CALL_HEAD: usize = BILLED_AT + 4;
+
+pub const CALL_BYTES: usize = CALL_HEAD + NUMBER_BYTES;
+
+// A ROW OF A PRICE LIST: its prefix, and its price.
+pub const CODE_BYTES: usize = 1 + 16;
+
+pub const PRICE_BODY: usize = CODE_BYTES + 4;
+
+// The longest record: its kind, and its body.
+pub const LONGEST_RECORD: usize = 1 + CALL_BYTES;
 
 pub const DIGIT_ROOM: usize = 35;
 
@@ -108,6 +125,22 @@ pub const SET_WIDTH: usize = COUNT_AT + 2;
 // A rule slot.
 pub const RULE_WIDTH: usize = RULE_BODY + 3;
 
+// THE MEMORY OF A PRICE LIST: the count of rows, then their slots, each with its price.
+pub const PRICE_ROOM: usize = 256;
+
+pub const ROWS_AT: usize = 2;
+
+pub const PRICE_AT: usize = SET_AT;
+
+pub const PRICE_END: usize = PRICE_AT + 4;
+
+pub const PRICES_BYTES: usize = ROWS_AT + RULE_WIDTH * PRICE_ROOM;
+
+// A LEDGER: three numbers a district.
+pub const DISTRICTS: usize = 512;
+
+pub const LEDGER_NUMBERS: usize = 3 * DISTRICTS;
+
 // A RUN OF THE PROGRAM.
 pub const RUN_SETS: usize = 64;
 
@@ -116,7 +149,7 @@ pub const RUN_RULES: usize = 512;
 pub const RUN_BYTES: usize = SETS_AT + SET_WIDTH * RUN_SETS + RULE_WIDTH * RUN_RULES;
 
 // All of them, in the order of this page: each is its twin.
-pub fn sizes() -> [usize; 51]
+pub fn sizes() -> [usize; 65]
     ensures { λ r. ⌜ r ≡ sizes ⌝ }
 {
     [
@@ -155,6 +188,13 @@ pub fn sizes() -> [usize; 51]
         LOOKUP_BYTES,
         VALUE_BYTES,
         NUMBER_BYTES,
+        DISTRICT_AT,
+        SECONDS_AT,
+        BILLED_AT,
+        CALL_HEAD,
+        CALL_BYTES,
+        CODE_BYTES,
+        PRICE_BODY,
         LONGEST_RECORD,
         DIGIT_ROOM,
         HEADER_BYTES,
@@ -168,6 +208,13 @@ pub fn sizes() -> [usize; 51]
         COUNT_AT,
         SET_WIDTH,
         RULE_WIDTH,
+        PRICE_ROOM,
+        ROWS_AT,
+        PRICE_AT,
+        PRICE_END,
+        PRICES_BYTES,
+        DISTRICTS,
+        LEDGER_NUMBERS,
         RUN_SETS,
         RUN_RULES,
         RUN_BYTES,

@@ -1,0 +1,20 @@
+-- The price of a call in C-11's own words: what the row that prices it must be. proofs/Prices.antt proves that it is so, and that no other row is.
+use Prim.Native.Nat.{ℕ, _<_}
+use mathlib.Core.Path.{_≡_}
+use mathlib.Core.Logic.{_⊎_}
+use mathlib.Core.Bool.{false}
+use mathlib.Core.List.{List, List·Memᴰ}
+use lib.ListN.{length}
+use lib.Dec.{T}
+use Rattle.meaning.specs.Basics.{beginsWith}
+use Rattle.meaning.specs.Prices.{PriceRow}
+
+-- r is held, the digits begin with its prefix, and every other row that fits has a shorter one: "the longest that fits winning"
+pub record IsPrice (rs : List PriceRow) (ds : List ℕ) (r : PriceRow) : Type 0 where
+  pub held : List·Memᴰ r rs
+  pub fits : T (beginsWith (r .prefix) ds)
+  pub others : (s : PriceRow) → List·Memᴰ s rs → T (beginsWith (s .prefix) ds) → (s ≡ r) ⊎ (length (s .prefix) < length (r .prefix))
+
+-- no row fits
+abbrev pub NoRowFits : List PriceRow → List ℕ → Type 0
+NoRowFits rs ds = (s : PriceRow) → List·Memᴰ s rs → beginsWith (s .prefix) ds ≡ false
