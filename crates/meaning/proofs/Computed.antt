@@ -25,7 +25,10 @@ use Rattle.meaning.specs.Reads.{Read, Count, Listed, conditionedBy, cond
 use Rattle.meaning.specs.Calls.{Call, OPEN-PLAN, ADD-SET, REPLACE-SET, REMOVE-SET, ADD-RULE, CHANGE-RULE, REMOVE-RULE, NUMBER, REFS, LIST, kinds, isKind, isCall, bodyLength, openingLines, addSetLines, replaceSetLines, removeSetLines, addRuleLines, changeRuleLines, removeRuleLines, refusal, lacksBytes, after, putIn, refusalsFrom, operationOf, callOf}
 use Rattle.meaning.specs.LookBack.{accepted, lastOpening, lastContent, lastSet}
 use Rattle.meaning.specs.History.{rising}
-use Rattle.meaning.specs.Records.{decimal, digitText, okLine, noLine, numberLine, refsLine, listedLine, endLine, lacksProgramRoom, recordText, recordHouse, fileText, End, fileEnd}
+use Rattle.meaning.specs.Prices.{rowGiven, rowInRange, rowWeight, rowPlace, priceFor, priceRefusal, rowsAfter}
+use Rattle.meaning.specs.Ledger.{emptyLedger, sumInRange, totalsInRange, ledgerInRange, plus, withTotals, entered, cents}
+use Rattle.meaning.specs.Charges.{callRecordOf, callInRange, pricedOn, dueOf, entryOf, chargeLines, takingRefusal, charged, ledgerAfter}
+use Rattle.meaning.specs.Records.{decimal, digitText, okLine, noLine, numberLine, refsLine, listedLine, endLine, lossLine, totalLine, lossText, lacksProgramRoom, recordText, recordHouse, fileText, End, fileEnd}
 use Rattle.meaning.specs.Answers.{codeOf, classOf, outgoingOf, numberOfRefusal}
 use Rattle.meaning.specs.declared.ClassOf.{ClassOf}
 use Rattle.meaning.specs.declared.ClassOf.the-variants.{Known, Unknown as UnknownClass}
@@ -33,7 +36,7 @@ use Rattle.meaning.specs.declared.OutgoingOf.{OutgoingOf}
 use Rattle.meaning.specs.declared.OutgoingOf.the-variants.{Given, AsIncoming, Unknown as UnknownOutgoing}
 use Rattle.meaning.specs.declared.Refusal.the-variants.{Cut, Kind, Plan as PlanRefused, Room, Range, Groups, Taken, Absent, Misfit, Full, InUse, Short, Long}
 use Rattle.meaning.specs.Examples.{string, MEMORY}
-use Rattle.meaning.specs.Run.{ascii, file, run, nineLines}
+use Rattle.meaning.specs.Run.{ascii, file, run, nineLines, threeAccounts, sevenLines}
 
 -- every definition that is computed with
 everything : ℕ
@@ -46,6 +49,16 @@ everything = 0
 pub run-given-whole : fileText run ≡ nineLines
 unfolding everything run nineLines
 run-given-whole = refl
+
+-- every definition that a call record, a row and the lines of losses are computed with besides
+losing : ℕ
+unfolding everything rowGiven rowInRange rowWeight rowPlace priceFor priceRefusal rowsAfter emptyLedger sumInRange totalsInRange ledgerInRange plus withTotals entered cents callRecordOf callInRange pricedOn dueOf entryOf chargeLines takingRefusal charged ledgerAfter lossLine totalLine lossText
+losing = 0
+
+-- C-11's three accounts of one district: each loses less than half a cent, and together they lose one
+pub three-accounts : fileText threeAccounts ≡ sevenLines
+unfolding losing threeAccounts sevenLines
+three-accounts = refl
 
 -- what ended reading, and where
 abbrev endFields : End → List ℕ
@@ -742,8 +755,8 @@ large =
 
 -- THE SIZES: the sums of specs/Sizes.antt are document 01's numbers, and docs/LAYOUT.md's. Whatever moves a width changes rows here, and no other rows: nothing else stands behind this line.
 
--- "Kind | Body bytes", 0 to 9, "kind 0's body becomes 41" (C-12), and no other kind has a body
-pub body-bytes : map bodyLength (kinds ++ (10 ∷ 255 ∷ [])) ≡ 41 ∷ 47 ∷ 47 ∷ 2 ∷ 21 ∷ 21 ∷ 19 ∷ 73 ∷ 2 ∷ 0 ∷ 0 ∷ 0 ∷ []
+-- "Kind | Body bytes", 0 to 9, "kind 0's body becomes 41" (C-12), 16 to 18 (C-11), and no other kind has a body
+pub body-bytes : map bodyLength (kinds ++ (10 ∷ 15 ∷ 19 ∷ 255 ∷ [])) ≡ 41 ∷ 47 ∷ 47 ∷ 2 ∷ 21 ∷ 21 ∷ 19 ∷ 73 ∷ 2 ∷ 0 ∷ 87 ∷ 21 ∷ 0 ∷ 0 ∷ 0 ∷ 0 ∷ 0 ∷ []
 unfolding everything
 body-bytes = refl
 
@@ -753,7 +766,7 @@ unfolding everything
 room-asked = refl
 
 -- "A program run uses at most 64 sets and 512 rules", the longest record, and the examples' memory
-pub run-asked : (RUN-SETS ∷ RUN-RULES ∷ RUN-BYTES ∷ LONGEST-RECORD ∷ MEMORY ∷ []) ≡ 64 ∷ 512 ∷ 15424 ∷ 74 ∷ 640 ∷ []
+pub run-asked : (RUN-SETS ∷ RUN-RULES ∷ RUN-BYTES ∷ LONGEST-RECORD ∷ MEMORY ∷ []) ≡ 64 ∷ 512 ∷ 15424 ∷ 88 ∷ 640 ∷ []
 unfolding everything
 run-asked = refl
 

@@ -5,6 +5,7 @@ pub mod ListingOrder
 pub mod Largest
 pub mod RuleLists
 pub mod Choice
+pub mod Prices
 pub mod View
 pub mod Serving
 pub mod Accepting
@@ -18,3 +19,5 @@ pub mod History
 pub mod Ending
 pub mod Examples
 pub mod Computed
+pub mod Rounding
+pub mod Ledgers

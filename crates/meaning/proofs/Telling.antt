@@ -8,7 +8,7 @@ use borrow.Author.Tests.{not-true, not-false}
 use Rattle.meaning.specs.Basics.{if_then_else_}
 use Rattle.meaning.specs.Answers.{numberOfRefusal, numberOfProvisioned}
 use Rattle.meaning.specs.declared.Refusal.{Refusal}
-use Rattle.meaning.specs.declared.Refusal.the-variants.{Cut, Kind, Plan, Room, Range, Groups, Taken, Absent, Misfit, Full, InUse, Short, Long}
+use Rattle.meaning.specs.declared.Refusal.the-variants.{Cut, Kind, Plan, Room, Range, Groups, Taken, Absent, Misfit, Full, InUse, Short, Long, NoPrice, LedgerFull}
 use Rattle.meaning.specs.declared.Provisioned.{Provisioned}
 
 pub told : {r test value : Bool} → r ≡ test → r ≡ value → test ≡ value
@@ -59,3 +59,5 @@ refusal-number Full e = omega (arith, e)
 refusal-number InUse e = omega (arith, e)
 refusal-number Short e = omega (arith, e)
 refusal-number Long e = omega (arith, e)
+refusal-number NoPrice e = omega (arith, e)
+refusal-number LedgerFull e = omega (arith, e)

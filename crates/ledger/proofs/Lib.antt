@@ -1,0 +1,4 @@
+pub mod Ranges
+pub mod Entering
+pub mod Losses
+pub mod Clearing
