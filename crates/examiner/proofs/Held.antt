@@ -30,11 +30,11 @@ use Rattle.examiner.proofs.Rises.{rising-order, order-rising}
 -- SLOTS OF ANY KIND
 
 -- each slot has w bytes
-abbrev Slots : ℕ → List (List ℕ) → Type 0
+abbrev pub Slots : ℕ → List (List ℕ) → Type 0
 Slots w [] = Unit
 Slots w (s ∷ ss) = ((length s ≡ w) × Bytes s) × Slots w ss
 
-cut-slots : (w n : ℕ) (m : List ℕ) → w * n ≤ length m → Bytes m → Slots w (slots w n m)
+pub cut-slots : (w n : ℕ) (m : List ℕ) → w * n ≤ length m → Bytes m → Slots w (slots w n m)
 cut-slots w zero m h b = tt
 cut-slots w (suc n) m h b =
     let e : w * suc n ≡ w + w * n = times-next w n in
@@ -43,26 +43,26 @@ cut-slots w (suc n) m h b =
 
 -- f reads a slot, g is its image, `ok` the test of a slot and `good` that of what it holds
 module _ {A : Type 0} (w : ℕ) (f : List ℕ → A) (g : A → List ℕ) (ok : List ℕ → Bool) (good : A → Bool) where
-  reads-pass : ((s : List ℕ) → length s ≡ w → T (ok s) → T (good (f s))) → (ss : List (List ℕ)) → Slots w ss → T (all ok ss) → T (all good (map f ss))
+  pub reads-pass : ((s : List ℕ) → length s ≡ w → T (ok s) → T (good (f s))) → (ss : List (List ℕ)) → Slots w ss → T (all ok ss) → T (all good (map f ss))
   reads-pass h [] k t = tt
   reads-pass h (s ∷ ss) k t =
       and-both (good (f s)) (all good (map f ss)) (h s (k .0 .0) (and-left (ok s) (all ok ss) t)) (reads-pass h ss (k .1) (and-right (ok s) (all ok ss) t))
 
-  images-are : ((s : List ℕ) → length s ≡ w → Bytes s → T (ok s) → g (f s) ≡ s) → (ss : List (List ℕ)) → Slots w ss → T (all ok ss) → map g (map f ss) ≡ ss
+  pub images-are : ((s : List ℕ) → length s ≡ w → Bytes s → T (ok s) → g (f s) ≡ s) → (ss : List (List ℕ)) → Slots w ss → T (all ok ss) → map g (map f ss) ≡ ss
   images-are h [] k t = refl
   images-are h (s ∷ ss) k t = ap₂ _∷_ (h s (k .0 .0) (k .0 .1) (and-left (ok s) (all ok ss) t)) (images-are h ss (k .1) (and-right (ok s) (all ok ss) t))
 
-  images-pass : ((a : A) → T (good a) → T (ok (g a))) → (xs : List A) → T (all good xs) → T (all ok (map g xs))
+  pub images-pass : ((a : A) → T (good a) → T (ok (g a))) → (xs : List A) → T (all good xs) → T (all ok (map g xs))
   images-pass h [] t = tt
   images-pass h (x ∷ xs) t =
       and-both (ok (g x)) (all ok (map g xs)) (h x (and-left (good x) (all good xs) t)) (images-pass h xs (and-right (good x) (all good xs) t))
 
-  images-wide : ((a : A) → T (good a) → length (g a) ≡ w) → (xs : List A) → T (all good xs) → Wide w (map g xs)
+  pub images-wide : ((a : A) → T (good a) → length (g a) ≡ w) → (xs : List A) → T (all good xs) → Wide w (map g xs)
   images-wide h [] t = tt
   images-wide h (x ∷ xs) t = (h x (and-left (good x) (all good xs) t), images-wide h xs (and-right (good x) (all good xs) t))
 
 -- the slots of bytes that begin with images
-slots-are : {A : Type 0} (w n : ℕ) (g : A → List ℕ) (xs : List A) (rest m : List ℕ) → Wide w (map g xs) → length xs ≡ n → flat (map g xs) ++ rest ≡ m
+pub slots-are : {A : Type 0} (w n : ℕ) (g : A → List ℕ) (xs : List A) (rest m : List ℕ) → Wide w (map g xs) → length xs ≡ n → flat (map g xs) ++ rest ≡ m
     → slots w n m ≡ map g xs
 slots-are w n g xs rest m wide many e = rw (← e, ← many, ← length-map xs g) (slots-flat w (map g xs) rest wide)
 

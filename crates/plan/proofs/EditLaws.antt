@@ -342,15 +342,15 @@ rule-written slot z y code v l k z-is y-is =
 put-over : (xs : List ℕ) (n : ℕ) (t : List ℕ) → length xs ≡ n → writtenOver xs (zeros n ++ t) ≡ xs ++ t
 put-over xs n t l = ap (λ (u : List ℕ). xs ++ u) (ap (λ (k : ℕ). drop k (zeros n ++ t)) l ∙ drop-at (zeros n) t n (length-zeros n))
 
-put-whole : (xs : List ℕ) (n : ℕ) → length xs ≡ n → writtenOver xs (zeros n) ≡ xs
+pub put-whole : (xs : List ℕ) (n : ℕ) → length xs ≡ n → writtenOver xs (zeros n) ≡ xs
 put-whole xs n l = ap (λ (u : List ℕ). writtenOver xs u) (sym (append-nil (zeros n))) ∙ (put-over xs n [] l ∙ append-nil xs)
 
 -- the part between h and t lent, and come back
 module _ (a n : ℕ) (h x t : List ℕ) (l : length h ≡ a) (k : length x ≡ n) where
-  mid-between : midOf a n (h ++ (x ++ t)) ≡ x
+  pub mid-between : midOf a n (h ++ (x ++ t)) ≡ x
   mid-between = ap (take n) (drop-at h (x ++ t) a l) ∙ take-at x t n k
 
-  put-between : (y : List ℕ) → putMid a n (h ++ (x ++ t)) y ≡ h ++ (y ++ t)
+  pub put-between : (y : List ℕ) → putMid a n (h ++ (x ++ t)) y ≡ h ++ (y ++ t)
   put-between y = ap₂ (λ (u v : List ℕ). u ++ (y ++ v)) (take-at h (x ++ t) a l) (ap (drop n) (drop-at h (x ++ t) a l) ∙ drop-at x t n k)
 
 -- the header of a fresh plan, part by part

@@ -1,0 +1,4 @@
+pub mod Layout
+pub mod Promises
+pub mod Examined
+pub mod Edits
