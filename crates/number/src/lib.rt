@@ -54,14 +54,14 @@ const NO_RULE: u8 = 0;
 
 const ESCAPED: u8 = 1;
 
-const RESPONDED: u8 = 2;
+pub const RESPONDED: u8 = 2;
 
 const UNCHANGED: u8 = 3;
 
-const FORMATTED: u8 = 4;
+pub const FORMATTED: u8 = 4;
 
 // A refusal: its number, and every other field 0.
-fn refused(number: u8) -> Answered
+pub fn refused(number: u8) -> Answered
     ensures { λ r. ⌜ r ≡ answeredAs (refused number) ⌝ }
 {
     Answered {
@@ -191,7 +191,7 @@ fn answer_by(
 }
 
 // The digits of a body in range.
-fn digits_in<'a>(body: &'a [u8]) -> &'a [u8]
+pub fn digits_in<'a>(body: &'a [u8]) -> &'a [u8]
     requires { ⌜ (length (now body) ≡ NUMBER-BYTES) × (numberInRange (now body) ≡ true) ⌝ }
     ensures { λ r. ⌜ Digits (now (body .entry)) (now r) ⌝ }
 {

@@ -1,0 +1,5 @@
+pub mod Taking
+pub mod Ranges
+pub mod Dues
+pub mod Charging
+pub mod Keeping
