@@ -2,6 +2,8 @@
 // the lines of its records, by the same loop as the program's.
 ghost use Prim.Native.Nat.{_≤_};
 use libc::STDOUT_FILENO;
+use meaning::sizes::LEDGER_NUMBERS;
+use meaning::sizes::PRICES_BYTES;
 use meaning::sizes::RUN_BYTES;
 
 // The digit of a number for its ones, its tens or its hundreds.
@@ -14,9 +16,19 @@ fn digit(n: usize, unit: usize) -> u8
 // The lines of the records that a descriptor gives.
 fn run(from: i32) {
     let mut plan = [0u8; RUN_BYTES];
+    let mut prices = [0u8; PRICES_BYTES];
+    let mut districts = [0i64; LEDGER_NUMBERS];
     let mut input = io::large_buffer();
     let mut output = io::large_buffer();
-    stream::copy(from, STDOUT_FILENO, &mut plan, &mut input, &mut output);
+    stream::copy(
+        from,
+        STDOUT_FILENO,
+        &mut plan,
+        &mut prices,
+        &mut districts,
+        &mut input,
+        &mut output,
+    );
 }
 
 // The lines of file n, if it is there.

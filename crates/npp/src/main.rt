@@ -3,6 +3,8 @@
 use libc::STDERR_FILENO;
 use libc::STDIN_FILENO;
 use libc::STDOUT_FILENO;
+use meaning::sizes::LEDGER_NUMBERS;
+use meaning::sizes::PRICES_BYTES;
 use meaning::sizes::RUN_BYTES;
 use stream::Turned;
 
@@ -23,9 +25,19 @@ fn report(turned: Turned, name: &[u8]) {
 // The lines of the records that a descriptor gives.
 fn run(from: i32, name: &[u8]) {
     let mut plan = [0u8; RUN_BYTES];
+    let mut prices = [0u8; PRICES_BYTES];
+    let mut districts = [0i64; LEDGER_NUMBERS];
     let mut input = io::large_buffer();
     let mut output = io::large_buffer();
-    let turned = stream::copy(from, STDOUT_FILENO, &mut plan, &mut input, &mut output);
+    let turned = stream::copy(
+        from,
+        STDOUT_FILENO,
+        &mut plan,
+        &mut prices,
+        &mut districts,
+        &mut input,
+        &mut output,
+    );
     report(turned, name);
 }
 

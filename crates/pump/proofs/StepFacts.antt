@@ -1,30 +1,38 @@
--- What the loop over steps needs of one: its line has a byte at least, so that steps over an output come to an end, and the memory keeps its size.
-use Prim.Native.Nat.{ℕ, zero, suc, _+_, _≤_}
-use mathlib.Core.Path.{_≡_, refl, ap, sym, subst, _∙_}
-use mathlib.Core.Bool.{Bool, true, false, not}
+-- What the loop over steps needs of one: its line has a byte at least, so that steps over an output come to an end, and the plan's memory keeps its size.
+use Prim.Native.Nat.{ℕ, zero, suc, _+_, _-_, _≤_}
+use mathlib.Core.Path.{_≡_, refl, ap, ap₂, sym, subst, _∙_}
+use mathlib.Core.Bool.{Bool, true, false}
 use mathlib.Core.List.{List, [], _∷_, _++_}
 use mathlib.Core.Option.{Option, none, some}
 use native.Mathlib.Omega.{arith}
 use lib.ListN.{length, take, getElem?, length-append}
-use lib.Dec.{ltb, eqb}
-use Rattle.meaning.specs.Sizes.{DIGIT-ROOM, RUN-BYTES}
+use lib.Dec.{eqb}
+use Rattle.meaning.specs.Sizes.{DIGIT-ROOM, DISTRICTS}
 use Rattle.meaning.specs.Basics.{if_then_else_, isZero, word}
-use Rattle.meaning.specs.Refusals.{KIND, CUT, PLAN}
+use Rattle.meaning.specs.Refusals.{PLAN}
 use Rattle.meaning.specs.Plan.{Plan}
 use Rattle.meaning.specs.Answer.{Answer, answer}
 use Rattle.meaning.specs.Reads.{Count, referrerCount, Listed, listing}
-use Rattle.meaning.specs.Calls.{NUMBER, REFS, LIST, isKind, isCall, bodyLength, refusal, after, callOf}
-use Rattle.meaning.specs.Records.{House, withPlan, decimal, digitsText, prefixText, lengthText, line, okLine, noLine, acceptedLine, numberLine, refsLine, listedLine, listedLines, endLine, listText, lacksProgramRoom, recordText, recordHouse}
-use Rattle.meaning.proofs.Tests.{either}
+use Rattle.meaning.specs.Prices.{PriceRow, pricesPass, priceRefusal, rowsAfter}
+use Rattle.meaning.specs.Ledger.{Ledger, totalsAt, lossOf, cents, hasRecords}
+use Rattle.meaning.specs.Charges.{charged, ledgerAfter}
+use Rattle.meaning.specs.Calls.{NUMBER, REFS, LIST, CALL, PRICE, LOSSES, isCall, bodyLength, refusal, after, callOf}
+use Rattle.meaning.specs.Records.{House, houseWith, withPlan, rowsOr, decimal, digitsText, prefixText, lengthText, line, okLine, noLine, acceptedLine, numberLine, refsLine, listedLine, listedLines, endLine, listText, signedDecimal, lossLine, totalLine, lossLines, lossText, lacksProgramRoom, recordText, recordHouse}
+use Rattle.meaning.specs.declared.Totals.{Totals}
+use Rattle.meaning.proofs.Tests.{true-is, either}
 use Rattle.plan.specs.State.{stateOf}
 use Rattle.changes.specs.Promise.{memoryOf}
-use Rattle.text.specs.Writes.{LONGEST}
+use Rattle.prices.specs.Layout.{pricesImage, rowsIn}
+use Rattle.prices.proofs.ImageLaws.{passes-parts, image-rows}
 use Rattle.run.proofs.RunLaws.{memory-kept, run-state}
-use Rattle.record.specs.Turns.{Turn, wrote, wants, full, ends, listedTurn, listTurnOver, listTurn, recordTurn, turnAt, turn}
-use Rattle.record.specs.Promises.{houseOf, textOf, houseAfter, StepPromise}
+use Rattle.billing.specs.Parts.{lastPart, partBefore, lossPartFrom, lossPart}
+use Rattle.record.specs.Turns.{Turn, wrote, wants, full, ends, listedPart, listPart, recordPart, turn}
+use Rattle.record.specs.Promises.{Lent, houseOf, lentFor, InHouse, textOf, lentAfter, StepPromise}
 use Rattle.record.specs.declared.Line.{Line}
 use Rattle.record.specs.declared.Stepped.{Stepped}
 use Rattle.record.specs.declared.Stepped.the-variants.{Wrote}
+use Rattle.record.proofs.EachTurn.{each-line, each-turn}
+use Rattle.record.proofs.Steps.{HouseIn, house-in, record-in, Leaves, turn-leaves}
 
 behind : (xs ys : List ℕ) → 1 ≤ length ys → 1 ≤ length (xs ++ ys)
 behind xs ys h = rw (length-append xs ys) (omega (arith, h))
@@ -67,16 +75,61 @@ list-long : (s : Option Plan) → 1 ≤ length (listText s)
 list-long none = no-long PLAN
 list-long (some p) = behind (listedLines (listing p)) (endLine (length (listing p))) (end-long (length (listing p)))
 
+loss-long : (d : ℕ) (t : Totals) → 1 ≤ length (lossLine d t)
+unfolding lossLine
+loss-long d t = line-long (decimal d ∷ signedDecimal (cents (lossOf t)) ∷ [])
+
+total-long : (t : Totals) → 1 ≤ length (totalLine t)
+unfolding totalLine
+total-long t = line-long ((116 ∷ 111 ∷ 116 ∷ 97 ∷ 108 ∷ []) ∷ signedDecimal (cents (lossOf t)) ∷ [])
+
+losses-long : (l : Ledger) → 1 ≤ length (lossText l)
+unfolding lossText
+losses-long l = behind (lossLines (l .districts) 0 DISTRICTS) (totalLine (l .whole)) (total-long (l .whole))
+
 record-long : (s : House) (k : ℕ) (body : List ℕ) → 1 ≤ length (recordText s k body)
 unfolding recordText
-record-long s k body = go (isCall k) (eqb k NUMBER) (eqb k REFS)
+record-long s k body = go (isCall k) (eqb k NUMBER) (eqb k REFS) (eqb k LIST) (eqb k CALL) (eqb k PRICE)
   where
-    go : (a b c : Bool)
-        → 1 ≤ length (if a then acceptedLine (refusal lacksProgramRoom (s .plan) (callOf k body)) else if b then numberLine (answer (s .plan) DIGIT-ROOM body) else if c then refsLine (referrerCount (s .plan) (word body 0)) else listText (s .plan))
-    go true b c = accepted-long (refusal lacksProgramRoom (s .plan) (callOf k body))
-    go false true c = number-long (answer (s .plan) DIGIT-ROOM body)
-    go false false true = refs-long (referrerCount (s .plan) (word body 0))
-    go false false false = list-long (s .plan)
+    go : (a b c d e f : Bool)
+        → 1 ≤ length (if a then acceptedLine (refusal lacksProgramRoom (s .plan) (callOf k body)) else if b then numberLine (answer (s .plan) DIGIT-ROOM body) else
+        if c then refsLine (referrerCount (s .plan) (word body 0)) else if d then listText (s .plan) else
+        if e then numberLine (charged (s .plan) (some (s .rows)) (s .ledger) DIGIT-ROOM body) else
+        if f then acceptedLine (priceRefusal (some (s .rows)) body) else lossText (s .ledger))
+    go true b c d e f = accepted-long (refusal lacksProgramRoom (s .plan) (callOf k body))
+    go false true c d e f = number-long (answer (s .plan) DIGIT-ROOM body)
+    go false false true d e f = refs-long (referrerCount (s .plan) (word body 0))
+    go false false false true e f = list-long (s .plan)
+    go false false false false true f = number-long (charged (s .plan) (some (s .rows)) (s .ledger) DIGIT-ROOM body)
+    go false false false false false true = accepted-long (priceRefusal (some (s .rows)) body)
+    go false false false false false false = losses-long (s .ledger)
+
+-- a line of a listing, or of the losses
+list-part-long : (o : Option Plan) (lines : ℕ) → 1 ≤ length (listPart o lines .text)
+list-part-long none lines = no-long PLAN
+list-part-long (some p) lines = go (getElem? (listing p) lines)
+  where
+    go : (o : Option Listed) → 1 ≤ length (listedPart p lines o .text)
+    go none = end-long (length (listing p))
+    go (some l) = listed-long l
+
+loss-part-long : (l : Ledger) (d n : ℕ) → 1 ≤ length (lossPartFrom l d n .text)
+loss-part-long l d zero = total-long (l .whole)
+loss-part-long l d (suc n) = go (hasRecords (totalsAt (l .districts) d)) (loss-part-long l (d + 1) n)
+  where
+    go : (b : Bool) → 1 ≤ length (lossPartFrom l (d + 1) n .text)
+        → 1 ≤ length ((if b then partBefore (d + 1) (lossLine d (totalsAt (l .districts) d)) else lossPartFrom l (d + 1) n) .text)
+    go true h = loss-long d (totalsAt (l .districts) d)
+    go false h = h
+
+part-long : (s : House) (lines k : ℕ) (body : List ℕ) → 1 ≤ length (recordPart s lines k body .text)
+unfolding recordPart
+part-long s lines k body = go (eqb k LIST) (eqb k LOSSES)
+  where
+    go : (a b : Bool) → 1 ≤ length ((if a then listPart (s .plan) lines else if b then lossPart (s .ledger) lines else lastPart (recordText s k body)) .text)
+    go true b = list-part-long (s .plan) lines
+    go false true = loss-part-long (s .ledger) lines (DISTRICTS - lines)
+    go false false = record-long s k body
 
 -- a turn that writes a line writes a byte at least
 abbrev Long : Turn → Type 0
@@ -85,42 +138,14 @@ Long wants = Unit {0}
 Long full = Unit {0}
 Long (ends text refusal) = Unit {0}
 
-listing-long : (s : House) (lines : ℕ) → Long (listTurn s lines)
-listing-long s lines = each (s .plan)
-  where
-    go : (p : Plan) (o : Option Listed) → Long (listedTurn s p lines o)
-    go p none = end-long (length (listing p))
-    go p (some l) = listed-long l
-
-    each : (o : Option Plan) → Long (listTurnOver s o lines)
-    each none = no-long PLAN
-    each (some p) = go p (getElem? (listing p) lines)
-
-kind-long : (s : House) (lines : ℕ) (ended : Bool) (k : ℕ) (bytes : List ℕ) → Long (turnAt s lines ended k bytes)
-unfolding turnAt recordTurn
-kind-long s lines ended k bytes = go (isKind k) (ltb (length bytes) (bodyLength k)) ended (eqb k LIST)
-  where
-    go : (a b c d : Bool)
-        → Long (if not a then ends (noLine KIND) KIND else if b then (if c then ends (noLine CUT) CUT else wants) else
-        if d then listTurn s lines else wrote (recordText s k (take (bodyLength k) bytes)) (1 + bodyLength k) (recordHouse s k (take (bodyLength k) bytes)) 0)
-    go false b c d = tt
-    go true true true d = tt
-    go true true false d = tt
-    go true false c true = listing-long s lines
-    go true false c false = record-long s k (take (bodyLength k) bytes)
-
 turn-long : (s : House) (lines : ℕ) (ended : Bool) (part : List ℕ) (room : ℕ) → Long (turn s lines ended part room)
-turn-long s lines true [] room = tt
-turn-long s lines false [] room = tt
-turn-long s lines ended (k ∷ bytes) room = go (ltb room LONGEST)
-  where
-    go : (b : Bool) → Long (if b then full else turnAt s lines ended k bytes)
-    go true = tt
-    go false = kind-long s lines ended k bytes
+turn-long s lines ended part room =
+    each-turn Long s lines ended part room tt tt (λ text refusal. tt)
+    (λ k bytes e h. let body : List ℕ = take (bodyLength k) bytes in each-line Long s lines k body (part-long s lines k body) (λ more q. part-long s lines k body))
 
-pub writes-some : {m input output after written : List ℕ} {lines : ℕ} {ended : Bool} {l : Line} → StepPromise m lines ended input output after written (Wrote l)
+pub writes-some : {m after : Lent} {input output written : List ℕ} {lines : ℕ} {ended : Bool} {l : Line} → StepPromise m lines ended input output after written (Wrote l)
     → 1 ≤ l .written
-writes-some {m} {input} {output} {after} {written} {lines} {ended} {l} p =
+writes-some {m} {after} {input} {output} {written} {lines} {ended} {l} p =
     let t : Turn = turn (houseOf m) lines ended input (length output) in
     let same : length (take (l .written) written) ≡ length (textOf t) = ap-text (p .turn-is) in
     let long : 1 ≤ length (take (l .written) written) = subst Long (sym (p .turn-is)) (turn-long (houseOf m) lines ended input (length output)) in
@@ -129,63 +154,54 @@ writes-some {m} {input} {output} {after} {written} {lines} {ended} {l} p =
     ap-text : {a b : Turn} → a ≡ b → length (textOf a) ≡ length (textOf b)
     ap-text {a} {b} e = subst (λ (x : Turn). length (textOf a) ≡ length (textOf x)) e refl
 
--- THE MEMORY holds the state that the turn leaves, and keeps its size
+-- WHAT IS LENT holds the state that the turn leaves, and the plan's memory keeps its size
 
-module _ (m : List ℕ) (h : RUN-BYTES ≤ length m) where
-  abbrev KeepsHouse : House → Type 0
-  KeepsHouse s = (houseOf (memoryOf (s .plan) m) ≡ s) × (length (memoryOf (s .plan) m) ≡ length m)
+module _ (m : Lent) {opened : Bool} (i : InHouse m opened) where
+  abbrev KeepsPlan : Option Plan → Type 0
+  KeepsPlan s = (stateOf (memoryOf s (m .plan)) ≡ s) × (length (memoryOf s (m .plan)) ≡ length (m .plan))
 
-  abbrev pub Keeps : Turn → Type 0
-  Keeps t = KeepsHouse (houseAfter t (houseOf m))
+  abbrev pub KeepsHouse : House → Type 0
+  KeepsHouse h = (houseOf (lentFor h m) ≡ h) × (length (memoryOf (h .plan) (m .plan)) ≡ length (m .plan))
 
-  kept : KeepsHouse (houseOf m)
-  kept = (ap houseOf (memory-kept m), ap length (memory-kept m))
+  keeps-house : (h : House) → KeepsPlan (h .plan) → HouseIn h → KeepsHouse h
+  keeps-house h k j =
+      let rows : rowsIn (pricesImage (h .rows)) ≡ h .rows = image-rows (h .rows) (passes-parts (h .rows) (true-is (pricesPass (h .rows)) (j .rows-in))) in
+      (ap₂ (λ (s : Option Plan) (rs : List PriceRow). houseWith s rs (h .ledger)) (k .0) rows, k .1)
 
-  list-keeps : (lines : ℕ) → Keeps (listTurn (houseOf m) lines)
-  list-keeps lines = each (stateOf m)
-    where
-      go : (p : Plan) (o : Option Listed) → Keeps (listedTurn (houseOf m) p lines o)
-      go p none = kept
-      go p (some l) = kept
+  kept : KeepsPlan (stateOf (m .plan))
+  kept = (ap stateOf (memory-kept (m .plan)), ap length (memory-kept (m .plan)))
 
-      each : (o : Option Plan) → Keeps (listTurnOver (houseOf m) o lines)
-      each none = kept
-      each (some p) = go p (getElem? (listing p) lines)
-
-  record-keeps : (k : ℕ) (body : List ℕ) → KeepsHouse (recordHouse (houseOf m) k body)
+  record-keeps : (k : ℕ) (body : List ℕ) → KeepsPlan (recordHouse (houseOf m) k body .plan)
   unfolding recordHouse
-  record-keeps k body = go (isCall k)
+  record-keeps k body = go (isCall k) (eqb k CALL) (eqb k PRICE)
     where
-      go : (b : Bool) → KeepsHouse (if b then withPlan (after lacksProgramRoom (stateOf m) (callOf k body)) (houseOf m) else houseOf m)
-      go true =
-          let changed =
-          run-state (callOf k body) m (memoryOf (after lacksProgramRoom (stateOf m) (callOf k body)) m) (refusal lacksProgramRoom (stateOf m) (callOf k body)) h
-          (record { number-is = refl; memory-is = refl }) in
-          (ap (λ (o : Option Plan). withPlan o (houseOf m)) (changed .0), changed .1)
-      go false = kept
+      h : House
+      h = houseOf m
 
-  kind-keeps : (lines : ℕ) (ended : Bool) (k : ℕ) (bytes : List ℕ) → Keeps (turnAt (houseOf m) lines ended k bytes)
-  unfolding turnAt recordTurn
-  kind-keeps lines ended k bytes = go (isKind k) (ltb (length bytes) (bodyLength k)) ended (eqb k LIST)
-    where
-      go : (a b c d : Bool)
-          → Keeps (if not a then ends (noLine KIND) KIND else if b then (if c then ends (noLine CUT) CUT else wants) else
-          if d then listTurn (houseOf m) lines else wrote (recordText (houseOf m) k (take (bodyLength k) bytes)) (1 + bodyLength k) (recordHouse (houseOf m) k (take (bodyLength k) bytes)) 0)
-      go false b c d = kept
-      go true true true d = kept
-      go true true false d = kept
-      go true false c true = list-keeps lines
-      go true false c false = record-keeps k (take (bodyLength k) bytes)
+      go : (a b c : Bool)
+          → KeepsPlan ((if a then withPlan (after lacksProgramRoom (stateOf (m .plan)) (callOf k body)) (houseOf m) else
+          if b then houseWith (stateOf (m .plan)) (h .rows) (ledgerAfter (stateOf (m .plan)) (some (h .rows)) (h .ledger) DIGIT-ROOM body) else
+          if c then houseWith (stateOf (m .plan)) (rowsOr (h .rows) (rowsAfter (some (h .rows)) body)) (h .ledger) else houseOf m) .plan)
+      go true b c =
+          run-state (callOf k body) (m .plan) (memoryOf (after lacksProgramRoom (stateOf (m .plan)) (callOf k body)) (m .plan)) (refusal lacksProgramRoom (stateOf (m .plan)) (callOf k body)) (i .plan-in .room)
+          (record { number-is = refl; memory-is = refl })
+      go false true c = kept
+      go false false true = kept
+      go false false false = kept
 
-  pub turn-keeps : (lines : ℕ) (ended : Bool) (part : List ℕ) (room : ℕ) → Keeps (turn (houseOf m) lines ended part room)
-  turn-keeps lines true [] room = kept
-  turn-keeps lines false [] room = kept
-  turn-keeps lines ended (k ∷ bytes) room = go (ltb room LONGEST)
-    where
-      go : (b : Bool) → Keeps (if b then full else turnAt (houseOf m) lines ended k bytes)
-      go true = kept
-      go false = kind-keeps lines ended k bytes
+  pub turn-keeps : (lines : ℕ) (ended : Bool) (part : List ℕ) (room : ℕ) → Leaves KeepsHouse (turn (houseOf m) lines ended part room)
+  turn-keeps =
+      turn-leaves KeepsHouse (houseOf m) (keeps-house (houseOf m) kept (house-in i))
+      (λ k body. keeps-house (recordHouse (houseOf m) k body) (record-keeps k body) (record-in (houseOf m) k body (house-in i)))
 
-  pub step-size : {input output after written : List ℕ} {lines : ℕ} {ended : Bool} {r : Stepped} → StepPromise m lines ended input output after written r
-      → length after ≡ length m
-  step-size {input} {output} {lines = lines} {ended = ended} p = ap length (p .memory-is) ∙ turn-keeps lines ended input (length output) .1
+  left-size : (t : Turn) → Leaves KeepsHouse t → length (lentAfter t m .plan) ≡ length (m .plan)
+  left-size (wrote text taken s lines) k = k .1
+  left-size wants k = refl
+  left-size full k = refl
+  left-size (ends text refusal) k = refl
+
+  pub step-size : {after : Lent} {input output written : List ℕ} {lines : ℕ} {ended : Bool} {r : Stepped} → StepPromise m lines ended input output after written r
+      → length (after .plan) ≡ length (m .plan)
+  step-size {input = input} {output = output} {lines = lines} {ended = ended} p =
+      let t : Turn = turn (houseOf m) lines ended input (length output) in
+      ap (λ (x : Lent). length (x .plan)) (p .memory-is) ∙ left-size t (turn-keeps lines ended input (length output))

@@ -1,8 +1,9 @@
 // Steps over the input at hand, one behind the other, until none can be taken.
 ghost use mathlib.Core.Path.{_≡_};
-ghost use Rattle.run.specs.Runs.{InRun};
 ghost use Rattle.blocks.specs.Places.{maskTable};
+ghost use Rattle.record.specs.Promises.{lent, InHouse};
 ghost use Rattle.pump.specs.Pumps.{pumpedAs, PumpPromise};
+use meaning::sizes::LEDGER_NUMBERS;
 use record::Run;
 use record::Stepped;
 
@@ -34,19 +35,30 @@ fn stopped(taken: usize, written: usize, run: Run, full: bool, over: bool, refus
 fn pump_by(
     masks: &[u8],
     plan: &mut [u8],
+    prices: &mut [u8],
+    districts: &mut [i64; LEDGER_NUMBERS],
     run: Run,
     ended: bool,
     input: &[u8],
     output: &mut [u8],
 ) -> Pumped
-    requires { ⌜ InRun (now plan) (run .opened) × (now masks ≡ maskTable) ⌝ }
-    ensures { λ r. ⌜ PumpPromise (now (plan .entry)) run ended (now (input .entry)) (now (output .entry)) (now (plan .exit)) (now (output .exit)) r ⌝ }
+    requires { ⌜ InHouse (lent (now plan) (now prices) (now districts) (run .whole)) (run .opened) × (now masks ≡ maskTable) ⌝ }
+    ensures { λ r. ⌜ PumpPromise (lent (now (plan .entry)) (now (prices .entry)) (now (districts .entry)) (run .whole)) run ended (now (input .entry)) (now (output .entry)) (lent (now (plan .exit)) (now (prices .exit)) (now (districts .exit)) (r .run .whole)) (now (output .exit)) r ⌝ }
 {
     let mut now = run;
     let mut at: usize = 0;
     let mut end: usize = 0;
     while end <= output.len() {
-        match record::step_by(masks, plan, now, ended, &input[at..], &mut output[end..]) {
+        match record::step_by(
+            masks,
+            plan,
+            prices,
+            districts,
+            now,
+            ended,
+            &input[at..],
+            &mut output[end..],
+        ) {
             Stepped::Wrote(line) => {
                 at += line.taken;
                 end += line.written;
@@ -63,11 +75,19 @@ fn pump_by(
 }
 
 // The same; the table is made here, once for all the steps.
-pub fn pump(plan: &mut [u8], run: Run, ended: bool, input: &[u8], output: &mut [u8]) -> Pumped
-    requires { ⌜ InRun (now plan) (run .opened) ⌝ }
-    ensures { λ r. ⌜ PumpPromise (now (plan .entry)) run ended (now (input .entry)) (now (output .entry)) (now (plan .exit)) (now (output .exit)) r ⌝ }
+pub fn pump(
+    plan: &mut [u8],
+    prices: &mut [u8],
+    districts: &mut [i64; LEDGER_NUMBERS],
+    run: Run,
+    ended: bool,
+    input: &[u8],
+    output: &mut [u8],
+) -> Pumped
+    requires { ⌜ InHouse (lent (now plan) (now prices) (now districts) (run .whole)) (run .opened) ⌝ }
+    ensures { λ r. ⌜ PumpPromise (lent (now (plan .entry)) (now (prices .entry)) (now (districts .entry)) (run .whole)) run ended (now (input .entry)) (now (output .entry)) (lent (now (plan .exit)) (now (prices .exit)) (now (districts .exit)) (r .run .whole)) (now (output .exit)) r ⌝ }
 {
     let mut masks = [0xffu8; 64];
     blocks::mask_digits(&mut masks);
-    pump_by(&masks, plan, run, ended, input, output)
+    pump_by(&masks, plan, prices, districts, run, ended, input, output)
 }

@@ -1,5 +1,5 @@
 -- However a file is cut into parts, the joined text of the steps is the meaning's text of the whole file, and its end is theirs; and there is such a run for every file.
-use Prim.Native.Nat.{ℕ, zero, suc, _+_, _≤_}
+use Prim.Native.Nat.{ℕ, zero, suc, _+_, _-_, _≤_, _<_}
 use mathlib.Core.Path.{_≡_, refl, ap, sym, subst, _∙_}
 use mathlib.Core.Logic.{_⊎_, inl, inr}
 use mathlib.Core.Bool.{Bool, true, false, not}
@@ -9,16 +9,19 @@ use native.Mathlib.Nat.{not-suc-le-zero, zero-add}
 use native.Mathlib.Omega.{arith}
 use lib.ListN.{length, take, drop, getElem?, length-append, length-drop}
 use lib.Seq.{take-append-le, drop-drop}
-use lib.Dec.{ltb, eqb}
-use borrow.Author.Tests.{eqb-true, ltb-false, le-ltb}
+use lib.Dec.{leb, ltb, eqb}
+use borrow.Author.Tests.{eqb-true, ltb-false, le-ltb, leb-true, leb-false}
+use Rattle.meaning.specs.Sizes.{DISTRICTS}
 use Rattle.meaning.specs.Basics.{if_then_else_}
 use Rattle.meaning.specs.Refusals.{CUT, KIND, PLAN}
 use Rattle.meaning.specs.Plan.{Plan}
 use Rattle.meaning.specs.Reads.{Listed, listing}
-use Rattle.meaning.specs.Calls.{LIST, isKind, isCall, bodyLength}
-use Rattle.meaning.specs.Records.{House, newHouse, noLine, listedLine, endLine, listedLines, listText, recordText, recordHouse, textFrom, fileText, End, endHere, endBehind, endFrom, fileEnd}
+use Rattle.meaning.specs.Ledger.{Ledger, totalsAt, hasRecords}
+use Rattle.meaning.specs.Calls.{LIST, LOSSES, isKind, isCall, bodyLength}
+use Rattle.meaning.specs.Records.{House, newHouse, noLine, listedLine, endLine, listedLines, listText, lossLine, totalLine, lossLines, lossText, recordText, recordHouse, textFrom, fileText, End, endHere, endBehind, endFrom, fileEnd}
 use Rattle.text.specs.Writes.{LONGEST}
-use Rattle.record.specs.Turns.{Turn, wrote, wants, full, ends, listedTurn, listTurnOver, listTurn, recordTurn, turnAt, turn}
+use Rattle.billing.specs.Parts.{Part, lastPart, partBefore, lossPartFrom, lossPart}
+use Rattle.record.specs.Turns.{Turn, wrote, wants, full, ends, listedPart, listPart, recordPart, turnBy, recordTurn, turnAt, turn}
 use Rattle.record.specs.Cuts.{Cut, Steps, line, wanting, filled, over, AnyCut}
 
 -- LISTS
@@ -39,21 +42,107 @@ module _ {A : Type 0} where
   behind : (xs : List A) (i : ℕ) (x : A) (ys : List A) → drop i xs ≡ x ∷ ys → drop (i + 1) xs ≡ ys
   behind xs i x ys e = sym (drop-drop 1 i xs) ∙ ap (drop 1) e
 
--- WHAT IS STILL TO BE WRITTEN, over the state of the run and how many lines of a listing are written already
+-- WHAT IS STILL TO BE WRITTEN, over the state of the run and how many lines are counted already
 
 abbrev listLeft : Option Plan → ℕ → List ℕ
 listLeft none lines = noLine PLAN
 listLeft (some p) lines = listedLines (drop lines (listing p)) ++ endLine (length (listing p))
 
-abbrev recordLeft : House → ℕ → ℕ → List ℕ → List ℕ
-recordLeft s lines k body = if eqb k LIST then listLeft (s .plan) lines else recordText s k body
+abbrev lossLeft : Ledger → ℕ → List ℕ
+lossLeft l d = lossLines (l .districts) d (DISTRICTS - d) ++ totalLine (l .whole)
+
+abbrev recordLeft : House → ℕ → List ℕ → ℕ → List ℕ
+recordLeft s k body lines = if eqb k LIST then listLeft (s .plan) lines else if eqb k LOSSES then lossLeft (s .ledger) lines else recordText s k body
+
+-- the most that lines are counted to
+abbrev pub linesIn : Option Plan → ℕ
+linesIn none = 0
+linesIn (some p) = length (listing p)
+
+abbrev pub mostLines : House → ℕ → ℕ
+mostLines s k = if eqb k LIST then linesIn (s .plan) else if eqb k LOSSES then DISTRICTS else 0
+
+-- a line, and what is left behind it, are what is left; and the count of lines rises
+abbrev Splits : (ℕ → List ℕ) → ℕ → ℕ → List ℕ → Option ℕ → Type 0
+Splits left most lines text none = left lines ≡ text
+Splits left most lines text (some next) = (left lines ≡ text ++ left next) × (lines < next) × (next ≤ most)
+
+abbrev SplitsPart : (ℕ → List ℕ) → ℕ → ℕ → Part → Type 0
+SplitsPart left most lines p = Splits left most lines (p .text) (p .next)
+
+list-splits : (o : Option Plan) (lines : ℕ) → SplitsPart (listLeft o) (linesIn o) lines (listPart o lines)
+list-splits none lines = refl
+list-splits (some p) lines = rw (at-place (listing p) lines) (go (drop lines (listing p)) refl)
+  where
+    go : (ls : List Listed) → drop lines (listing p) ≡ ls → SplitsPart (listLeft (some p)) (length (listing p)) lines (listedPart p lines (first ls))
+    go [] e = rw e
+    go (l ∷ ls) e =
+        let inside : 1 ≤ length (drop lines (listing p)) = rw e (omega arith) in
+        let few : lines + 1 ≤ length (listing p) = omega (arith, rw (length-drop lines (listing p)) at inside) in
+        (rw (e, behind (listing p) lines l ls e) (append-assoc (listedLine l) (listedLines ls) (endLine (length (listing p)))), omega arith, few)
+
+module _ (l : Ledger) where
+  -- of n districts from d on
+  abbrev lossesFrom : ℕ → ℕ → List ℕ
+  lossesFrom d n = lossLines (l .districts) d n ++ totalLine (l .whole)
+
+  loss-splits-from : (d n : ℕ) → SplitsPart (λ (k : ℕ). lossesFrom k (d + n - k)) (d + n) d (lossPartFrom l d n)
+  loss-splits-from d zero = let e : d + 0 - d ≡ 0 = omega arith in rw e
+  loss-splits-from d (suc n) = go (hasRecords (totalsAt (l .districts) d)) refl (loss-splits-from (d + 1) n)
+    where
+      later : (text : List ℕ) (next : Option ℕ) → hasRecords (totalsAt (l .districts) d) ≡ false → Splits (λ (k : ℕ). lossesFrom k (d + 1 + n - k)) (d + 1 + n) (d + 1) text next
+          → Splits (λ (k : ℕ). lossesFrom k (d + suc n - k)) (d + suc n) d text next
+      later text none h e =
+          let a : d + suc n - d ≡ suc n = omega arith in
+          let b : d + 1 + n - (d + 1) ≡ n = omega arith in
+          rw (a, h) (rw b at e)
+      later text (some k) h e =
+          let a : d + suc n - d ≡ suc n = omega arith in
+          let b : d + 1 + n - (d + 1) ≡ n = omega arith in
+          let c : d + 1 + n - k ≡ d + suc n - k = omega arith in
+          let whole : lossesFrom (d + 1) n ≡ text ++ lossesFrom k (d + suc n - k) = rw (b, c) at (e .0) in
+          (rw (a, h) whole, omega (arith, e .1), omega (arith, e .2))
+
+      go : (b : Bool) → hasRecords (totalsAt (l .districts) d) ≡ b → SplitsPart (λ (k : ℕ). lossesFrom k (d + 1 + n - k)) (d + 1 + n) (d + 1) (lossPartFrom l (d + 1) n)
+          → SplitsPart (λ (k : ℕ). lossesFrom k (d + suc n - k)) (d + suc n) d
+          (if b then partBefore (d + 1) (lossLine d (totalsAt (l .districts) d)) else lossPartFrom l (d + 1) n)
+      go true h later-is =
+          let a : d + suc n - d ≡ suc n = omega arith in
+          let b : d + suc n - (d + 1) ≡ n = omega arith in
+          (rw (a, b, h) (append-assoc (lossLine d (totalsAt (l .districts) d)) (lossLines (l .districts) (d + 1) n) (totalLine (l .whole))), omega arith, omega arith)
+      go false h later-is = later (lossPartFrom l (d + 1) n .text) (lossPartFrom l (d + 1) n .next) h later-is
+
+  loss-splits : (d : ℕ) → SplitsPart (lossLeft l) DISTRICTS d (lossPart l d)
+  loss-splits d = go (leb d DISTRICTS) refl
+    where
+      go : (b : Bool) → leb d DISTRICTS ≡ b → SplitsPart (lossLeft l) DISTRICTS d (lossPart l d)
+      go true h =
+          let e : d + (DISTRICTS - d) ≡ DISTRICTS = omega (arith, leb-true d DISTRICTS h) in
+          rw e at (loss-splits-from d (DISTRICTS - d))
+      go false h = let e : DISTRICTS - d ≡ 0 = omega (arith, leb-false d DISTRICTS h) in rw e (rw e)
+
+record-splits : (s : House) (k : ℕ) (body : List ℕ) (lines : ℕ) → SplitsPart (recordLeft s k body) (mostLines s k) lines (recordPart s lines k body)
+unfolding recordPart
+record-splits s k body lines = go (eqb k LIST) (eqb k LOSSES)
+  where
+    go : (a b : Bool)
+        → SplitsPart (λ (n : ℕ). if a then listLeft (s .plan) n else if b then lossLeft (s .ledger) n else recordText s k body)
+        (if a then linesIn (s .plan) else if b then DISTRICTS else 0) lines
+        (if a then listPart (s .plan) lines else if b then lossPart (s .ledger) lines else lastPart (recordText s k body))
+    go true b = list-splits (s .plan) lines
+    go false true = loss-splits (s .ledger) lines
+    go false false = refl
+
+-- a line that is not the last of its record counts more lines
+pub counts-more : (s : House) (lines k : ℕ) (body : List ℕ) (next : ℕ) → recordPart s lines k body .next ≡ some next → (lines < next) × (next ≤ mostLines s k)
+counts-more s lines k body next e = let splits = rw e at (record-splits s k body lines) in (splits .1, splits .2)
 
 abbrev textLeft : House → ℕ → List ℕ → List ℕ
 textLeft s lines [] = []
 textLeft s lines (k ∷ bytes) =
     if not (isKind k) then noLine KIND else
     if ltb (length bytes) (bodyLength k) then noLine CUT else
-    recordLeft s lines k (take (bodyLength k) bytes)
+    recordLeft s k (take (bodyLength k) bytes) lines
     ++ textFrom (length (drop (bodyLength k) bytes)) (recordHouse s k (take (bodyLength k) bytes)) (drop (bodyLength k) bytes)
 
 -- the end that reading comes to, whatever is written already
@@ -84,18 +173,20 @@ enough (suc m) (suc n) s (k ∷ bytes) h i =
     enough m n next rest (omega (arith, h, shorter)) (omega (arith, i, shorter)) in
     (rw (same .0), rw (same .1))
 
--- before the first line of a listing, a record's text
-whole-record : (s : House) (k : ℕ) (body : List ℕ) → recordLeft s 0 k body ≡ recordText s k body
-unfolding recordText isCall
-whole-record s k body = go (eqb k LIST) refl
+-- before its first line, a record's text
+whole-record : (s : House) (k : ℕ) (body : List ℕ) → recordLeft s k body 0 ≡ recordText s k body
+unfolding recordText isCall lossText
+whole-record s k body = go (eqb k LIST) (eqb k LOSSES) refl refl
   where
     listed : (o : Option Plan) → listLeft o 0 ≡ listText o
     listed none = refl
     listed (some p) = refl
 
-    go : (b : Bool) → eqb k LIST ≡ b → (if b then listLeft (s .plan) 0 else recordText s k body) ≡ recordText s k body
-    go true e = rw (eqb-true k LIST e) (listed (s .plan))
-    go false e = refl
+    go : (a b : Bool) → eqb k LIST ≡ a → eqb k LOSSES ≡ b
+        → (if a then listLeft (s .plan) 0 else if b then lossLeft (s .ledger) 0 else recordText s k body) ≡ recordText s k body
+    go true b e f = rw (eqb-true k LIST e) (listed (s .plan))
+    go false true e f = rw (eqb-true k LOSSES f)
+    go false false e f = refl
 
 -- nothing written yet: the meaning's text, and its end
 all-left : (fuel : ℕ) (s : House) (left : List ℕ) → length left ≤ fuel → (textFrom fuel s left ≡ textLeft s 0 left) × (endFrom fuel s left ≡ endLeft s left)
@@ -111,23 +202,14 @@ all-left (suc fuel) s (k ∷ bytes) h =
     enough fuel n next rest (omega (arith, h, shorter)) (omega arith) in
     (rw (same .0, whole-record s k (take (bodyLength k) bytes)), rw (same .1))
 
--- at a listing: what is left of it, and the text of the rest
-list-left : (s : House) (lines : ℕ) (bytes : List ℕ)
-    → (textLeft s lines (LIST ∷ bytes) ≡ listLeft (s .plan) lines ++ textLeft s 0 bytes) × (endLeft s (LIST ∷ bytes) ≡ endBehind 1 (endLeft s bytes))
-unfolding recordHouse isKind isCall bodyLength
-list-left s lines bytes =
-    let fits : ltb (length bytes) 0 ≡ false = le-ltb (length bytes) 0 (omega arith) in
-    let rest = all-left (length bytes) s bytes (omega arith) in
-    (rw (fits, rest .0), rw (fits, rest .1))
-
--- at another whole record: its text, and the text of the rest
-record-left : (s : House) (lines k : ℕ) (bytes : List ℕ) → isKind k ≡ true → ltb (length bytes) (bodyLength k) ≡ false → eqb k LIST ≡ false
+-- at a whole record: what is left of it, and the text of the rest
+record-left : (s : House) (lines k : ℕ) (bytes : List ℕ) → isKind k ≡ true → ltb (length bytes) (bodyLength k) ≡ false
     → (textLeft s lines (k ∷ bytes)
-    ≡ recordText s k (take (bodyLength k) bytes) ++ textLeft (recordHouse s k (take (bodyLength k) bytes)) 0 (drop (bodyLength k) bytes))
+    ≡ recordLeft s k (take (bodyLength k) bytes) lines ++ textLeft (recordHouse s k (take (bodyLength k) bytes)) 0 (drop (bodyLength k) bytes))
     × (endLeft s (k ∷ bytes) ≡ endBehind (1 + bodyLength k) (endLeft (recordHouse s k (take (bodyLength k) bytes)) (drop (bodyLength k) bytes)))
-record-left s lines k bytes e f g =
+record-left s lines k bytes e f =
     let rest = all-left (length (drop (bodyLength k) bytes)) (recordHouse s k (take (bodyLength k) bytes)) (drop (bodyLength k) bytes) (omega arith) in
-    (rw (e, f, g, rest .0), rw (e, f, rest .1))
+    (rw (e, f, rest .0), rw (e, f, rest .1))
 
 -- ONE STEP
 
@@ -141,50 +223,27 @@ Owes s left all end (ends text refusal) = (text ≡ all) × (endHere refusal s �
 abbrev OwesLeft : House → ℕ → List ℕ → Turn → Type 0
 OwesLeft s lines left = Owes s left (textLeft s lines left) (endLeft s left)
 
--- a line in front of the lines of a listing, its end and the text of the rest
-in-front : (a b c d : List ℕ) → a ++ (b ++ c ++ d) ≡ a ++ b ++ c ++ d
-in-front a b c d = sym (append-assoc a (b ++ c) d) ∙ ap (λ (xs : List ℕ). xs ++ d) (sym (append-assoc a b c))
-
--- over the plan that is there, or none
-list-owes-over : (s : House) (o : Option Plan) → s .plan ≡ o → (lines : ℕ) (bytes : List ℕ)
-    → Owes s (LIST ∷ bytes) (listLeft o lines ++ textLeft s 0 bytes) (endBehind 1 (endLeft s bytes)) (listTurnOver s o lines)
-list-owes-over s none is lines bytes = (refl, refl)
-list-owes-over s (some p) is lines bytes = rw (at-place (listing p) lines) (go (drop lines (listing p)) refl)
-  where
-    end : List ℕ
-    end = endLine (length (listing p))
-
-    texts : List ℕ
-    texts = textLeft s 0 bytes
-
-    next : (l : Listed) (ls : List Listed) → drop lines (listing p) ≡ l ∷ ls → textLeft s (lines + 1) (LIST ∷ bytes) ≡ listedLines ls ++ end ++ texts
-    next l ls e =
-        list-left s (lines + 1) bytes .0
-        ∙ (ap (λ (o : Option Plan). listLeft o (lines + 1) ++ texts) is ∙ ap (λ (xs : List Listed). listedLines xs ++ end ++ texts) (behind (listing p) lines l ls e))
-
-    go : (ls : List Listed) → drop lines (listing p) ≡ ls
-        → Owes s (LIST ∷ bytes) (listedLines ls ++ end ++ texts) (endBehind 1 (endLeft s bytes)) (listedTurn s p lines (first ls))
-    go [] e = (refl, refl)
-    go (l ∷ ls) e =
-        (ap (λ (xs : List ℕ). listedLine l ++ xs) (next l ls e) ∙ in-front (listedLine l) (listedLines ls) end texts, none-before (endLeft s (LIST ∷ bytes)) ∙ list-left s (lines + 1) bytes .1)
-
-list-owes : (s : House) (lines : ℕ) (bytes : List ℕ)
-    → Owes s (LIST ∷ bytes) (listLeft (s .plan) lines ++ textLeft s 0 bytes) (endBehind 1 (endLeft s bytes)) (listTurn s lines)
-list-owes s lines bytes = list-owes-over s (s .plan) refl lines bytes
-
 record-owes : (s : House) (lines k : ℕ) (bytes : List ℕ) → isKind k ≡ true → ltb (length bytes) (bodyLength k) ≡ false
     → OwesLeft s lines (k ∷ bytes) (recordTurn s lines k (take (bodyLength k) bytes))
 unfolding recordTurn
-record-owes s lines k bytes e f = go (eqb k LIST) refl
+record-owes s lines k bytes e f = go (recordPart s lines k body .text) (recordPart s lines k body .next) (record-splits s k body lines)
   where
-    go : (b : Bool) → eqb k LIST ≡ b
-        → OwesLeft s lines (k ∷ bytes)
-        (if b then listTurn s lines else wrote (recordText s k (take (bodyLength k) bytes)) (1 + bodyLength k) (recordHouse s k (take (bodyLength k) bytes)) 0)
-    go true g = rw (eqb-true k LIST g, list-left s lines bytes .0, list-left s lines bytes .1) (list-owes s lines bytes)
-    go false g =
+    body : List ℕ
+    body = take (bodyLength k) bytes
+
+    texts : List ℕ
+    texts = textLeft (recordHouse s k body) 0 (drop (bodyLength k) bytes)
+
+    go : (text : List ℕ) (next : Option ℕ) → Splits (recordLeft s k body) (mostLines s k) lines text next → OwesLeft s lines (k ∷ bytes) (turnBy s k body text next)
+    go text none h =
         let taken : drop (1 + bodyLength k) (k ∷ bytes) ≡ drop (bodyLength k) bytes = sym (drop-drop (bodyLength k) 1 (k ∷ bytes)) in
-        let both = record-left s lines k bytes e f g in
-        rw taken (sym (both .0), sym (both .1))
+        let both = record-left s lines k bytes e f in
+        rw taken (ap (λ (xs : List ℕ). xs ++ texts) (sym h) ∙ sym (both .0), sym (both .1))
+    go text (some next) h = (
+      ap (λ (xs : List ℕ). text ++ xs) (record-left s next k bytes e f .0)
+          ∙ (sym (append-assoc text (recordLeft s k body next) texts) ∙ (ap (λ (xs : List ℕ). xs ++ texts) (sym (h .0)) ∙ sym (record-left s lines k bytes e f .0))),
+      none-before (endLeft s (k ∷ bytes)),
+    )
 
 -- a part that begins with a record's kind
 kind-owes : (s : House) (lines k : ℕ) (bytes rest : List ℕ) (ended : Bool) → (ended ≡ true → rest ≡ [])
@@ -252,57 +311,39 @@ empty-file text e r = any-cut [] text e r
 pub whole-cut : (left : List ℕ) → Cut left left [] true
 whole-cut left = record { joins = sym (append-nil left); last = λ e. refl }
 
--- a step at a listing
-list-turn : (s : House) (lines : ℕ) (bytes : List ℕ) → turn s lines true (LIST ∷ bytes) LONGEST ≡ listTurn s lines
-unfolding turnAt recordTurn isKind bodyLength
-list-turn s lines bytes = rw (le-ltb (length bytes) 0 (omega arith))
+-- the lines of a record that are left, before a run over the rest
+record-runs : (fuel : ℕ) (s : House) (k : ℕ) (bytes texts : List ℕ) (end : End) → isKind k ≡ true → ltb (length bytes) (bodyLength k) ≡ false
+    → Steps (recordHouse s k (take (bodyLength k) bytes)) 0 (drop (bodyLength k) bytes) texts end → (lines : ℕ) → mostLines s k - lines < fuel
+    → Steps s lines (k ∷ bytes) (recordLeft s k (take (bodyLength k) bytes) lines ++ texts) (endBehind (1 + bodyLength k) end)
+unfolding turnAt recordTurn
+record-runs zero s k bytes texts end e f r lines few = absurd (not-suc-le-zero few)
+record-runs (suc fuel) s k bytes texts end e f r lines few =
+    go (recordPart s lines k body .text) (recordPart s lines k body .next) step (record-splits s k body lines) (record-runs fuel s k bytes texts end e f r)
+  where
+    body : List ℕ
+    body = take (bodyLength k) bytes
 
-module _ (s : House) where
-  list-turn-over : (o : Option Plan) → s .plan ≡ o → (lines : ℕ) (bytes : List ℕ) → turn s lines true (LIST ∷ bytes) LONGEST ≡ listTurnOver s o lines
-  list-turn-over o is lines bytes = list-turn s lines bytes ∙ ap (λ (x : Option Plan). listTurnOver s x lines) is
+    step : turn s lines true (k ∷ bytes) LONGEST ≡ turnBy s k (take (bodyLength k) bytes) (recordPart s lines k (take (bodyLength k) bytes) .text) (recordPart s lines k (take (bodyLength k) bytes) .next)
+    step = rw (e, f)
 
-  module _ (p : Plan) (is : s .plan ≡ some p) where
-    listed-turn : (lines : ℕ) (bytes : List ℕ) (ls : List Listed) → drop lines (listing p) ≡ ls
-        → turn s lines true (LIST ∷ bytes) LONGEST ≡ listedTurn s p lines (first ls)
-    listed-turn lines bytes ls e = list-turn-over (some p) is lines bytes ∙ ap (listedTurn s p lines) (at-place (listing p) lines ∙ ap first e)
-
-    -- the lines of a listing that are left, and its end, before a run over the rest
-    listed-run : (bytes texts : List ℕ) (end : End) → Steps s 0 bytes texts end → (ls : List Listed) (lines : ℕ) → drop lines (listing p) ≡ ls
-        → Steps s lines (LIST ∷ bytes) (listedLines ls ++ (endLine (length (listing p)) ++ texts)) (endBehind 1 end)
-    listed-run bytes texts end r [] lines e = line LONGEST (whole-cut (LIST ∷ bytes)) (listed-turn lines bytes [] e) r
-    listed-run bytes texts end r (l ∷ ls) lines e =
-        rw (append-assoc (listedLine l) (listedLines ls) (endLine (length (listing p)) ++ texts), ← none-before (endBehind 1 end))
-        (line LONGEST (whole-cut (LIST ∷ bytes)) (listed-turn lines bytes (l ∷ ls) e)
-        (listed-run bytes texts end r ls (lines + 1) (behind (listing p) lines l ls e)))
-
-  list-run-over : (o : Option Plan) → s .plan ≡ o → (bytes texts : List ℕ) (end : End) → Steps s 0 bytes texts end
-      → Steps s 0 (LIST ∷ bytes) (listText o ++ texts) (endBehind 1 end)
-  list-run-over none is bytes texts end r = line LONGEST (whole-cut (LIST ∷ bytes)) (list-turn-over none is 0 bytes) r
-  list-run-over (some p) is bytes texts end r =
-      rw (append-assoc (listedLines (listing p)) (endLine (length (listing p))) texts) (listed-run p is bytes texts end r (listing p) 0 refl)
-
-list-run : (s : House) (bytes texts : List ℕ) (end : End) → Steps s 0 bytes texts end → Steps s 0 (LIST ∷ bytes) (listText (s .plan) ++ texts) (endBehind 1 end)
-list-run s bytes texts end r = list-run-over s (s .plan) refl bytes texts end r
-
-list-record-run : (s : House) (bytes texts : List ℕ) (end : End)
-    → Steps (recordHouse s LIST (take (bodyLength LIST) bytes)) 0 (drop (bodyLength LIST) bytes) texts end
-    → Steps s 0 (LIST ∷ bytes) (recordText s LIST (take (bodyLength LIST) bytes) ++ texts) (endBehind (1 + bodyLength LIST) end)
-unfolding recordText recordHouse isCall bodyLength
-list-record-run s bytes texts end r = list-run s bytes texts end r
+    go : (text : List ℕ) (next : Option ℕ) → turn s lines true (k ∷ bytes) LONGEST ≡ turnBy s k (take (bodyLength k) bytes) text next
+        → Splits (recordLeft s k (take (bodyLength k) bytes)) (mostLines s k) lines text next
+        → ((later : ℕ) → mostLines s k - later < fuel → Steps s later (k ∷ bytes) (recordLeft s k (take (bodyLength k) bytes) later ++ texts) (endBehind (1 + bodyLength k) end))
+        → Steps s lines (k ∷ bytes) (recordLeft s k (take (bodyLength k) bytes) lines ++ texts) (endBehind (1 + bodyLength k) end)
+    go text none t h more =
+        rw h
+        (line LONGEST (whole-cut (k ∷ bytes)) t
+        (subst (λ (xs : List ℕ). Steps (recordHouse s k (take (bodyLength k) bytes)) 0 xs texts end) (drop-drop (bodyLength k) 1 (k ∷ bytes)) r))
+    go text (some next) t h more =
+        rw (h .0, append-assoc text (recordLeft s k (take (bodyLength k) bytes) next) texts, ← none-before (endBehind (1 + bodyLength k) end))
+        (line LONGEST (whole-cut (k ∷ bytes)) t (more next (omega (arith, h .1, h .2, few))))
 
 -- a whole record before a run over the rest
 record-run : (s : House) (k : ℕ) (bytes texts : List ℕ) (end : End) → isKind k ≡ true → ltb (length bytes) (bodyLength k) ≡ false
     → Steps (recordHouse s k (take (bodyLength k) bytes)) 0 (drop (bodyLength k) bytes) texts end
     → Steps s 0 (k ∷ bytes) (recordText s k (take (bodyLength k) bytes) ++ texts) (endBehind (1 + bodyLength k) end)
-unfolding turnAt recordTurn
-record-run s k bytes texts end e f r = go (eqb k LIST) refl
-  where
-    go : (b : Bool) → eqb k LIST ≡ b → Steps s 0 (k ∷ bytes) (recordText s k (take (bodyLength k) bytes) ++ texts) (endBehind (1 + bodyLength k) end)
-    go true g = rw (eqb-true k LIST g) (list-record-run s bytes texts end (rw (eqb-true k LIST g) at r))
-    go false g =
-        let body : List ℕ = take (bodyLength k) bytes in
-        let step : turn s 0 true (k ∷ bytes) LONGEST ≡ wrote (recordText s k body) (1 + bodyLength k) (recordHouse s k body) 0 = rw (e, f, g) in
-        line LONGEST (whole-cut (k ∷ bytes)) step (subst (λ (xs : List ℕ). Steps (recordHouse s k body) 0 xs texts end) (drop-drop (bodyLength k) 1 (k ∷ bytes)) r)
+record-run s k bytes texts end e f r =
+    rw (← whole-record s k (take (bodyLength k) bytes)) (record-runs (suc (mostLines s k)) s k bytes texts end e f r 0 (omega arith))
 
 -- a file that begins with a kind, before a run over what is behind its record
 kind-run : (s : House) (k : ℕ) (bytes texts : List ℕ) (end : End)
@@ -348,28 +389,24 @@ Last ended part full = Unit {0}
 Last ended part (ends text refusal) =
     ((text ≡ noLine KIND) × (refusal ≡ KIND)) ⊎ (((text ≡ noLine CUT) × (refusal ≡ CUT) × (ended ≡ true)) ⊎ ((text ≡ []) × (refusal ≡ 0) × (part ≡ []) × (ended ≡ true)))
 
-list-last : (s : House) (lines : ℕ) (ended : Bool) (part : List ℕ) → Last ended part (listTurn s lines)
-list-last s lines ended part = each (s .plan)
-  where
-    go : (p : Plan) (o : Option Listed) → Last ended part (listedTurn s p lines o)
-    go p none = tt
-    go p (some l) = tt
-
-    each : (o : Option Plan) → Last ended part (listTurnOver s o lines)
-    each none = tt
-    each (some p) = go p (getElem? (listing p) lines)
+record-last : (s : House) (k : ℕ) (ended : Bool) (part body text : List ℕ) (next : Option ℕ) → Last ended part (turnBy s k body text next)
+record-last s k ended part body text none = tt
+record-last s k ended part body text (some next) = tt
 
 kind-last : (s : House) (lines k : ℕ) (ended : Bool) (part bytes : List ℕ) → Last ended part (turnAt s lines ended k bytes)
 unfolding turnAt recordTurn
-kind-last s lines k ended part bytes = go (isKind k) (ltb (length bytes) (bodyLength k)) ended (eqb k LIST)
+kind-last s lines k ended part bytes = go (isKind k) (ltb (length bytes) (bodyLength k)) ended
   where
-    go : (a b c d : Bool) → Last c part (if not a then ends (noLine KIND) KIND else if b then (if c then ends (noLine CUT) CUT else wants) else
-        if d then listTurn s lines else wrote (recordText s k (take (bodyLength k) bytes)) (1 + bodyLength k) (recordHouse s k (take (bodyLength k) bytes)) 0)
-    go false b c d = inl (refl, refl)
-    go true true true d = inr (inl (refl, refl, refl))
-    go true true false d = tt
-    go true false c true = list-last s lines c part
-    go true false c false = tt
+    body : List ℕ
+    body = take (bodyLength k) bytes
+
+    go : (a b c : Bool) → Last c part (if not a then ends (noLine KIND) KIND else if b then (if c then ends (noLine CUT) CUT else wants) else
+        recordTurn s lines k (take (bodyLength k) bytes))
+    go false b c = inl (refl, refl)
+    go true true true = inr (inl (refl, refl, refl))
+    go true true false = tt
+    go true false c =
+        record-last s k c part (take (bodyLength k) bytes) (recordPart s lines k (take (bodyLength k) bytes) .text) (recordPart s lines k (take (bodyLength k) bytes) .next)
 
 turn-last : (s : House) (lines : ℕ) (ended : Bool) (part : List ℕ) (room : ℕ) → Last ended part (turn s lines ended part room)
 turn-last s lines true [] room = inr (inr (refl, refl, refl, refl))

@@ -1,7 +1,9 @@
 pub mod Cuts
-pub mod AnswerFacts
+pub mod EachTurn
 pub mod NumberLines
 pub mod ReadLines
 pub mod CallLines
+pub mod Beside
+pub mod MonthLines
 pub mod StepLines
 pub mod Steps

@@ -5,7 +5,6 @@ use mathlib.Core.Logic.{_≢_}
 use mathlib.Core.Bool.{true, false}
 use mathlib.Core.List.{List}
 use mathlib.Core.Option.{Option, none, some}
-use native.Mathlib.Nat.{sub-zero}
 use native.Mathlib.Omega.{arith}
 use lib.ListN.{length, take}
 use lib.Seq.{take-all}
@@ -24,39 +23,11 @@ use Rattle.plan.proofs.ImageLaws.{state-some, state-none}
 use Rattle.plan.proofs.ReadLaws.{sound-is}
 use Rattle.number.specs.Answering.{Known}
 use Rattle.number.specs.Promises.{HoldsAnswer}
-use Rattle.number.proofs.Answering.{holds-count}
 use Rattle.text.specs.Writes.{Writes, answerIn, NumberIn}
 use Rattle.text.proofs.Lines.{named}
 use Rattle.text.proofs.LineTexts.{refused-is}
-use Rattle.record.proofs.AnswerFacts.{Printable, printable}
-
--- THE LINE OF AN ANSWER
-
--- the digits of an answer that can be written down are lent from the front of a buffer
-module _ {a : Answer} {held : List ℕ} {r : Answered} (p : Printable a) (h : HoldsAnswer a held r) where
-  abbrev lent : List ℕ
-  lent = take (r .digits - 0) held
-
-  lent-are : lent ≡ a .digits
-  lent-are = rw (sub-zero, holds-count h) (h .digits)
-
-  pub number-in : NumberIn r lent
-  number-in =
-      let outcome : r .outcome ≡ a .outcome = ap (λ (x : Answered). x .outcome) (h .result) in
-      let class : r .class ≡ a .class = ap (λ (x : Answered). x .class) (h .result) in
-      let response : r .response ≡ a .response = ap (λ (x : Answered). x .response) (h .result) in
-      let count : r .count ≡ a .count = ap (λ (x : Answered). x .count) (h .result) in
-      record {
-        outcome = rw outcome (p .outcome);
-        class = rw class (p .class);
-        response = rw response (p .response);
-        count = rw count (p .count);
-        few = rw lent-are (p .few);
-        digits = rw lent-are (p .digits);
-      }
-
-  pub line-is : numberLine (answerIn r lent) ≡ numberLine a
-  line-is = ap numberLine (rw lent-are (ap (λ (x : Answered). answerIn x (a .digits)) (h .result)))
+use Rattle.number.proofs.AnswerFacts.{Printable, printable}
+use Rattle.billing.proofs.NumberTexts.{number-in, line-is}
 
 -- A RECORD OF A NUMBER, whose body has just its length
 

@@ -4,12 +4,12 @@ use mathlib.Core.Path.{_≡_, refl, ap, sym, _∙_}
 use mathlib.Core.Logic.{_≢_}
 use mathlib.Core.Bool.{Bool, true, false, not}
 use mathlib.Core.List.{List, [], _∷_}
-use mathlib.Core.Option.{Option, some}
+use mathlib.Core.Option.{Option, none, some}
 use native.Mathlib.Omega.{arith}
 use lib.ListN.{length, take, getD, getElem?, replicate, length-map, List·getD-map}
 use lib.Seq.{take-at}
 use lib.Dec.{T}
-use borrow.Author.Tests.{leb-true, leb-false}
+use borrow.Author.Tests.{leb-false}
 use Rattle.meaning.specs.Sizes.{SET-NUMBER-BYTES, PREFIX-AT, FILTER-BYTES, NUMBER-BYTES, DIGIT-ROOM}
 use Rattle.meaning.specs.Basics.{if_then_else_, count, isSome, word, part, padded, digitsInRange}
 use Rattle.meaning.specs.Refusals.{PLAN, RANGE, ABSENT, Line, firstOf}
@@ -17,11 +17,12 @@ use Rattle.meaning.specs.Filters.{filterOf, filterRanges, filterInRange}
 use Rattle.meaning.specs.Rules.{Rule, filterIn, names}
 use Rattle.meaning.specs.Plan.{sized, codePasses, codesPass, held, referrers}
 use Rattle.meaning.specs.History.{noRule}
-use Rattle.meaning.specs.Calls.{REMOVE-RULE, NUMBER, REFS, LIST, isKind, isCall, bodyLength}
+use Rattle.meaning.specs.Calls.{REMOVE-RULE, NUMBER, REFS, LIST, isCall, bodyLength}
 use Rattle.meaning.specs.Answer.{answer}
 use Rattle.meaning.specs.Reads.{overRoom, countAfter, referrerCount, Listed, listed, listing, listedOr, ruleAtPlace}
 use Rattle.meaning.specs.Answers.{setOf, countOf, ruleListed}
-use Rattle.meaning.specs.Records.{noLine, numberLine, refsLine, listedLine, endLine, recordText, recordHouse, House}
+use Rattle.meaning.specs.Ledger.{emptyLedger}
+use Rattle.meaning.specs.Records.{noLine, numberLine, refsLine, listedLine, endLine, recordText, recordHouse, House, houseWith}
 use Rattle.meaning.specs.declared.Counted.{Counted}
 use Rattle.meaning.specs.declared.SetNumber.{SetNumber}
 use Rattle.meaning.specs.declared.ListedRule.{ListedRule}
@@ -33,25 +34,26 @@ use Rattle.plan.proofs.ImageLaws.{state-some, state-none}
 use Rattle.plan.proofs.ReadLaws.{rule-count-is, sound-is, numbers}
 use Rattle.text.specs.Writes.{Writes, listedOf, ListedIn}
 use Rattle.text.proofs.Lines.{named, front-is}
-use Rattle.record.proofs.AnswerFacts.{digits-of}
-use Rattle.record.specs.Turns.{Turn, wrote, listTurn, recordTurn}
-use Rattle.record.specs.Promises.{houseOf, lineOf, ReadPromise}
+use Rattle.number.proofs.AnswerFacts.{digits-of}
+use Rattle.record.specs.Turns.{Turn, wrote, listPart, recordPart, turnBy, recordTurn}
+use Rattle.record.specs.Promises.{planHouse, lineOf, ReadPromise}
 use Rattle.record.specs.declared.Run.{Run}
 use Rattle.record.specs.declared.Line.{Line as Written}
 
 -- A LINE THAT IS WRITTEN
 
 module _ {text out last : List ℕ} {n : ℕ} (m : List ℕ) (run : Run) (w : Writes text out last n) where
-  pub read-line : {t : Turn} {r : Written} (taken lines : ℕ) (opened : Bool) → t ≡ wrote text taken (houseOf m) lines → r ≡ lineOf taken n opened lines
+  pub read-line : {t : Turn} {r : Written} (taken lines : ℕ) (opened : Bool) → t ≡ wrote text taken (planHouse m) lines → r ≡ lineOf taken n opened lines (run .whole)
       → opened ≡ run .opened → ReadPromise t m run out last r
   read-line taken lines opened t-is r-is o =
       rw (t-is, r-is)
       (record {
-        turn-is = ap (λ (x : List ℕ). wrote x taken (houseOf m) lines) (front-is w);
+        turn-is = ap (λ (x : List ℕ). wrote x taken (planHouse m) lines) (front-is w);
         output-is = w .buffer-is;
         count-is = w .count-is;
         inside = w .inside;
         opened-is = o;
+        whole-is = refl;
       })
 
 -- A COUNT
@@ -113,10 +115,25 @@ listed-in r t =
 
 -- A LINE OF THE LISTING
 
+list-by : (s : House) (lines : ℕ) → recordTurn s lines LIST [] ≡ turnBy s LIST [] (listPart (s .plan) lines .text) (listPart (s .plan) lines .next)
+unfolding recordTurn recordPart
+list-by s lines = refl
+
+-- its last line takes the kind's byte, and every other none
+list-last : (s : House) (text : List ℕ) → turnBy s LIST [] text none ≡ wrote text 1 s 0
+unfolding recordHouse isCall bodyLength
+list-last s text = refl
+
 module _ (m : List ℕ) (run : Run) where
-  pub list-no-plan : {out last : List ℕ} {n : ℕ} {r : Written} → soundOf m ≡ false → run .opened ≡ false → Writes (noLine PLAN) out last n → r ≡ lineOf 1 n false 0
-      → ReadPromise (listTurn (houseOf m) (run .lines)) m run out last r
-  list-no-plan s o w e = read-line m run w 1 0 false (rw (state-none m s)) e (sym o)
+  abbrev Lists : List ℕ → List ℕ → Written → Type 0
+  Lists out last r = ReadPromise (recordTurn (planHouse m) (run .lines) LIST []) m run out last r
+
+  pub list-no-plan : {out last : List ℕ} {n : ℕ} {r : Written} → soundOf m ≡ false → run .opened ≡ false → Writes (noLine PLAN) out last n → r ≡ lineOf 1 n false 0 (run .whole)
+      → Lists out last r
+  list-no-plan s o w e =
+      let t : recordTurn (planHouse m) (run .lines) LIST [] ≡ wrote (noLine PLAN) 1 (planHouse m) 0 =
+      list-by (planHouse m) (run .lines) ∙ rw (state-none m s) (list-last (houseWith none [] emptyLedger) (noLine PLAN)) in
+      read-line m run w 1 0 false t e (sym o)
 
   module _ (s : soundOf m ≡ true) (o : run .opened ≡ true) where
     abbrev rules : List Listed
@@ -126,10 +143,12 @@ module _ (m : List ℕ) (run : Run) where
     unfolding listing
     listing-few c e = rw (e, length-map (planOf m .rules) listed) (rules-few m s)
 
-    pub list-end : {out last : List ℕ} {n : ℕ} {r : Written} (c : ℕ) → c ≡ length rules → c ≤ run .lines → Writes (endLine c) out last n → r ≡ lineOf 1 n true 0
-        → ReadPromise (listTurn (houseOf m) (run .lines)) m run out last r
+    pub list-end : {out last : List ℕ} {n : ℕ} {r : Written} (c : ℕ) → c ≡ length rules → c ≤ run .lines → Writes (endLine c) out last n → r ≡ lineOf 1 n true 0 (run .whole)
+        → Lists out last r
     list-end c c-is h w e =
-        let t : listTurn (houseOf m) (run .lines) ≡ wrote (endLine c) 1 (houseOf m) 0 = rw (state-some m s, no-element rules (run .lines) (rw (← c-is) h), c-is) in
+        let t : recordTurn (planHouse m) (run .lines) LIST [] ≡ wrote (endLine c) 1 (planHouse m) 0 =
+        list-by (planHouse m) (run .lines)
+        ∙ rw (state-some m s, no-element rules (run .lines) (rw (← c-is) h), c-is) (list-last (houseWith (some (planOf m)) [] emptyLedger) (endLine (length rules))) in
         read-line m run w 1 0 true t e (sym o)
 
     module _ (c : ℕ) (c-is : c ≡ length rules) (h : run .lines < c) where
@@ -154,40 +173,47 @@ module _ (m : List ℕ) (run : Run) where
         pub next-in : ListedIn rule
         next-in = rw rule-is (listed-in here passes)
 
-        pub list-next : {out last : List ℕ} {n : ℕ} {r : Written} → Writes (listedLine (listedOf rule)) out last n → r ≡ lineOf 0 n true (run .lines + 1)
-            → ReadPromise (listTurn (houseOf m) (run .lines)) m run out last r
+        pub list-next : {out last : List ℕ} {n : ℕ} {r : Written} → Writes (listedLine (listedOf rule)) out last n → r ≡ lineOf 0 n true (run .lines + 1) (run .whole)
+            → Lists out last r
         list-next w e =
-            let t : listTurn (houseOf m) (run .lines) ≡ wrote (listedLine (listed here)) 0 (houseOf m) (run .lines + 1) = rw (state-some m s, rule-here) in
+            let t : recordTurn (planHouse m) (run .lines) LIST [] ≡ wrote (listedLine (listed here)) 0 (planHouse m) (run .lines + 1) =
+            list-by (planHouse m) (run .lines) ∙ rw (state-some m s, rule-here) in
             let text : listedLine (listedOf rule) ≡ listedLine (listed here) = ap listedLine (ap listedOf rule-is ∙ listed-back (listed here)) in
             read-line m run (named text w) 0 (run .lines + 1) true t e (sym o)
 
 -- A RECORD THAT READS THE PLAN
 
 number-turn : (s : House) (lines : ℕ) (body : List ℕ) → recordTurn s lines NUMBER body ≡ wrote (numberLine (answer (s .plan) DIGIT-ROOM body)) (1 + NUMBER-BYTES) s 0
-unfolding recordTurn recordText recordHouse isCall bodyLength
+unfolding recordTurn recordPart recordText recordHouse isCall bodyLength
 number-turn s lines body = refl
 
 refs-turn : (s : House) (lines : ℕ) (body : List ℕ) → recordTurn s lines REFS body ≡ wrote (refsLine (referrerCount (s .plan) (word body 0))) (1 + SET-NUMBER-BYTES) s 0
-unfolding recordTurn recordText recordHouse isCall bodyLength
+unfolding recordTurn recordPart recordText recordHouse isCall bodyLength
 refs-turn s lines body = refl
 
-list-turn : (s : House) (lines : ℕ) (body : List ℕ) → recordTurn s lines LIST body ≡ listTurn s lines
-unfolding recordTurn
-list-turn s lines body = refl
+-- a listing has no body
+list-turn : (s : House) (lines : ℕ) (body : List ℕ) → recordTurn s lines LIST body ≡ recordTurn s lines LIST []
+unfolding recordTurn recordPart recordHouse isCall
+list-turn s lines body = go (listPart (s .plan) lines .text) (listPart (s .plan) lines .next)
+  where
+    go : (text : List ℕ) (next : Option ℕ) → turnBy s LIST body text next ≡ turnBy s LIST [] text next
+    go text none = refl
+    go text (some next) = refl
 
-module _ (m : List ℕ) (run : Run) (k : ℕ) (body : List ℕ) {out last : List ℕ} {r : Written} where
-  pub read-number : {n : ℕ} → k ≡ NUMBER → Writes (numberLine (answer (stateOf m) DIGIT-ROOM body)) out last n → r ≡ lineOf (1 + NUMBER-BYTES) n (run .opened) 0
-      → ReadPromise (recordTurn (houseOf m) (run .lines) k body) m run out last r
-  read-number h w e = read-line m run w (1 + NUMBER-BYTES) 0 (run .opened) (rw h (number-turn (houseOf m) (run .lines) body)) e refl
+module _ (m : List ℕ) (run : Run) (k : ℕ) (body : List ℕ) where
+  abbrev Reads : List ℕ → List ℕ → Written → Type 0
+  Reads out last r = ReadPromise (recordTurn (planHouse m) (run .lines) k body) m run out last r
 
-  pub read-refs : {n : ℕ} → k ≡ REFS → Writes (refsLine (referrerCount (stateOf m) (word body 0))) out last n → r ≡ lineOf (1 + SET-NUMBER-BYTES) n (run .opened) 0
-      → ReadPromise (recordTurn (houseOf m) (run .lines) k body) m run out last r
-  read-refs h w e = read-line m run w (1 + SET-NUMBER-BYTES) 0 (run .opened) (rw h (refs-turn (houseOf m) (run .lines) body)) e refl
+  pub read-number : {out last : List ℕ} {n : ℕ} {r : Written} → k ≡ NUMBER → Writes (numberLine (answer (stateOf m) DIGIT-ROOM body)) out last n
+      → r ≡ lineOf (1 + NUMBER-BYTES) n (run .opened) 0 (run .whole) → Reads out last r
+  read-number h w e = read-line m run w (1 + NUMBER-BYTES) 0 (run .opened) (rw h (number-turn (planHouse m) (run .lines) body)) e refl
 
-  pub read-list : isCall k ≡ false → isKind k ≡ true → k ≢ NUMBER → k ≢ REFS → ReadPromise (listTurn (houseOf m) (run .lines)) m run out last r
-      → ReadPromise (recordTurn (houseOf m) (run .lines) k body) m run out last r
-  unfolding isKind isCall
-  read-list c h a b p =
-      let least : LIST ≤ k = omega (arith, leb-false k REMOVE-RULE c, a, b) in
-      let is : k ≡ LIST = omega (arith, least, leb-true k LIST h) in
-      rw (is, list-turn (houseOf m) (run .lines) body) p
+  pub read-refs : {out last : List ℕ} {n : ℕ} {r : Written} → k ≡ REFS → Writes (refsLine (referrerCount (stateOf m) (word body 0))) out last n
+      → r ≡ lineOf (1 + SET-NUMBER-BYTES) n (run .opened) 0 (run .whole) → Reads out last r
+  read-refs h w e = read-line m run w (1 + SET-NUMBER-BYTES) 0 (run .opened) (rw h (refs-turn (planHouse m) (run .lines) body)) e refl
+
+  pub read-list : {out last : List ℕ} {r : Written} → isCall k ≡ false → k ≤ LIST → k ≢ NUMBER → k ≢ REFS → Lists m run out last r → Reads out last r
+  unfolding isCall
+  read-list c most a b p =
+      let is : k ≡ LIST = omega (arith, leb-false k REMOVE-RULE c, a, b) in
+      rw (is, list-turn (planHouse m) (run .lines) body) p

@@ -1,4 +1,4 @@
--- The records of an input that comes in parts: what one step does, over the state of the run, how many lines of a listing are written already, whether
+-- The records of an input that comes in parts: what one step does, over the state of the run, how many lines of a listing or of the losses are counted already, whether
 -- the input has ended, the part of it that is at hand, and how many bytes there are for the output.
 use Prim.Native.Nat.{ℕ, _+_}
 use mathlib.Core.Bool.{Bool, false, not}
@@ -10,9 +10,10 @@ use Rattle.meaning.specs.Basics.{if_then_else_}
 use Rattle.meaning.specs.Refusals.{CUT, KIND, PLAN}
 use Rattle.meaning.specs.Plan.{Plan}
 use Rattle.meaning.specs.Reads.{Listed, listing}
-use Rattle.meaning.specs.Calls.{LIST, isKind, bodyLength}
+use Rattle.meaning.specs.Calls.{LIST, LOSSES, isKind, bodyLength}
 use Rattle.meaning.specs.Records.{House, noLine, listedLine, endLine, recordText, recordHouse}
 use Rattle.text.specs.Writes.{LONGEST}
+use Rattle.billing.specs.Parts.{Part, lastPart, partBefore, lossPart}
 
 -- what a step does: a line, with the bytes of input that it takes and what it leaves; or nothing, since there is no whole record yet, or no room for a
 -- line; or the last line, or none, and reading has ended with a refusal, or 0
@@ -22,22 +23,31 @@ pub data Turn : Type 0 where
   full : Turn
   ends : (text : List ℕ) (refusal : ℕ) → Turn
 
--- a line of the listing, and the byte of its record with the last: "A listed rule is class, prefix, length and set .. `end` gives how many"
-abbrev pub listedTurn : House → Plan → ℕ → Option Listed → Turn
-listedTurn s p lines none = wrote (endLine (length (listing p))) 1 s 0
-listedTurn s p lines (some l) = wrote (listedLine l) 0 s (lines + 1)
+-- THE LINES OF A RECORD
 
-abbrev pub listTurnOver : House → Option Plan → ℕ → Turn
-listTurnOver s none lines = wrote (noLine PLAN) 1 s 0
-listTurnOver s (some p) lines = listedTurn s p lines (getElem? (listing p) lines)
+-- of a listing: "A listed rule is class, prefix, length and set .. `end` gives how many"
+abbrev pub listedPart : Plan → ℕ → Option Listed → Part
+listedPart p lines none = lastPart (endLine (length (listing p)))
+listedPart p lines (some l) = partBefore (lines + 1) (listedLine l)
 
-abbrev pub listTurn : House → ℕ → Turn
-listTurn s lines = listTurnOver s (s .plan) lines
+abbrev pub listPart : Option Plan → ℕ → Part
+listPart none lines = lastPart (noLine PLAN)
+listPart (some p) lines = listedPart p lines (getElem? (listing p) lines)
+
+-- every other record writes one line
+unfoldable pub recordPart : House → ℕ → ℕ → List ℕ → Part
+recordPart s lines k body =
+    if eqb k LIST then listPart (s .plan) lines else
+    if eqb k LOSSES then lossPart (s .ledger) lines else lastPart (recordText s k body)
+
+-- the last line takes the record's bytes
+abbrev pub turnBy : House → ℕ → List ℕ → List ℕ → Option ℕ → Turn
+turnBy s k body text none = wrote text (1 + bodyLength k) (recordHouse s k body) 0
+turnBy s k body text (some next) = wrote text 0 s next
 
 -- a whole record
 unfoldable pub recordTurn : House → ℕ → ℕ → List ℕ → Turn
-recordTurn s lines k body =
-    if eqb k LIST then listTurn s lines else wrote (recordText s k body) (1 + bodyLength k) (recordHouse s k body) 0
+recordTurn s lines k body = turnBy s k body (recordPart s lines k body .text) (recordPart s lines k body .next)
 
 -- "KIND before CUT"; CUT only where the input has ended
 unfoldable pub turnAt : House → ℕ → Bool → ℕ → List ℕ → Turn

@@ -1,10 +1,11 @@
 // The house records of an input that comes in parts: a step takes a record, or a line of a listing, and writes its line.
 ghost use mathlib.Core.Path.{_≡_};
 ghost use mathlib.Core.Bool.{true, false};
-ghost use Prim.Native.Nat.{_≤_};
+ghost use mathlib.Core.List.{[]};
+ghost use Prim.Native.Nat.{_≤_, _<_};
 ghost use lib.ListN.{length};
 ghost use Rattle.meaning.specs.Sizes.{SET-NUMBER-BYTES, NUMBER-BYTES, DIGIT-ROOM};
-ghost use Rattle.meaning.specs.Calls.{isKind, isCall, bodyLength};
+ghost use Rattle.meaning.specs.Calls.{LIST, isKind, isCall, bodyLength};
 ghost use Rattle.meaning.specs.Records.{numberLine, refsLine};
 ghost use Rattle.meaning.specs.Answer.{answer};
 ghost use Rattle.meaning.specs.Answers.{numberOfProvisioned};
@@ -15,16 +16,18 @@ ghost use Rattle.number.specs.Answering.{Known};
 ghost use Rattle.text.specs.Writes.{LONGEST, Writes};
 ghost use Rattle.run.specs.Runs.{InRun};
 ghost use Rattle.blocks.specs.Places.{maskTable};
-ghost use Rattle.record.specs.Turns.{listTurn, recordTurn, isWhole};
-ghost use Rattle.record.specs.Promises.{houseOf, lineOf, ReadPromise, LinePromise, openedAfter, CutPromise, StepPromise, AnyStepPromise};
+ghost use Rattle.record.specs.Turns.{recordTurn, isWhole};
+ghost use Rattle.record.specs.Promises.{lent, houseOf, planHouse, InHouse, lineOf, ReadPromise, PlanPromise, LinePromise, openedAfter, CutPromise, StepPromise, AnyStepPromise, wholeBehind, wholeAfter};
 use meaning::Provisioned;
 use meaning::RulePlace;
+use meaning::Totals;
 use meaning::kinds;
 use meaning::refusals::ACCEPTED;
 use meaning::refusals::CUT;
 use meaning::refusals::KIND;
 use meaning::refusals::PLAN;
 use meaning::refusals::RANGE;
+use meaning::sizes::LEDGER_NUMBERS;
 use meaning::sizes::NUMBER_BYTES;
 use meaning::sizes::RUN_BYTES;
 use meaning::sizes::SET_NUMBER_BYTES;
@@ -36,10 +39,14 @@ const REFS_RECORD: usize = 1 + SET_NUMBER_BYTES;
 
 const LIST_RECORD: usize = 1;
 
-// The state of a run beside its plan: whether an opening was accepted, and how many lines of a listing are written already.
+const LOSS_RECORD: usize = 1;
+
+// The state of a run beside what is lent to it: whether an opening was accepted, how many lines of a listing or of the losses are counted already, and the whole's
+// totals of the ledger.
 pub struct Run {
     pub opened: bool,
     pub lines: u16,
+    pub whole: Totals,
 }
 
 // A line was written: how many bytes of the input it took, how many it has, and the state behind it.
@@ -65,15 +72,15 @@ pub enum Stepped {
     Ends(Last),
 }
 
-// What a step over any memory answers: the memory is too small for a run's plan, or what the step answers.
+// What a step over anything lent answers: the memory is too small for a run's plan, or the price list or the ledger is out of range; or what the step answers.
 pub enum AnyStep {
-    Small,
+    Unfit,
     Took(Stepped),
 }
 
 // A line, and what it leaves.
-fn line_of(taken: usize, written: usize, opened: bool, lines: u16) -> Line
-    ensures { λ r. ⌜ r ≡ lineOf taken written opened lines ⌝ }
+fn line_of(taken: usize, written: usize, opened: bool, lines: u16, whole: Totals) -> Line
+    ensures { λ r. ⌜ r ≡ lineOf taken written opened lines whole ⌝ }
 {
     Line {
         taken: taken,
@@ -81,6 +88,7 @@ fn line_of(taken: usize, written: usize, opened: bool, lines: u16) -> Line
         run: Run {
             opened: opened,
             lines: lines,
+            whole: whole,
         },
     }
 }
@@ -131,19 +139,19 @@ fn refs_record(plan: &[u8], opened: bool, body: &[u8], output: &mut [u8]) -> usi
 // The next line of a listing.
 fn list_record(plan: &[u8], run: Run, output: &mut [u8]) -> Line
     requires { ⌜ (soundOf (now plan) ≡ run .opened) × (LONGEST ≤ length (now output)) ⌝ }
-    ensures { λ r. ⌜ ReadPromise (listTurn (houseOf (now (plan .entry))) (run .lines)) (now (plan .entry)) run (now (output .entry)) (now (output .exit)) r ⌝ }
+    ensures { λ r. ⌜ ReadPromise (recordTurn (planHouse (now (plan .entry))) (run .lines) LIST []) (now (plan .entry)) run (now (output .entry)) (now (output .exit)) r ⌝ }
 {
     if !run.opened {
         let refused = text::no_line(PLAN, output);
-        return line_of(LIST_RECORD, refused, false, 0);
+        return line_of(LIST_RECORD, refused, false, 0, run.whole);
     }
     let count = listing::count_known(plan);
     if count <= run.lines as usize {
         let ended = text::end_line(count, output);
-        return line_of(LIST_RECORD, ended, true, 0);
+        return line_of(LIST_RECORD, ended, true, 0, run.whole);
     }
     let written = text::listed_line(listing::rule_known(plan, RulePlace(run.lines)), output);
-    line_of(0, written, true, run.lines + 1)
+    line_of(0, written, true, run.lines + 1, run.whole)
 }
 
 // A RECORD
@@ -157,16 +165,16 @@ fn read_record(
     body: &[u8],
     output: &mut [u8],
 ) -> Line
-    requires { ⌜ (soundOf (now plan) ≡ run .opened) × (isCall kind ≡ false) × (isKind kind ≡ true) × (length (now body) ≡ bodyLength kind) × (LONGEST ≤ length (now output)) × (now masks ≡ maskTable) ⌝ }
-    ensures { λ r. ⌜ ReadPromise (recordTurn (houseOf (now (plan .entry))) (run .lines) kind (now (body .entry))) (now (plan .entry)) run (now (output .entry)) (now (output .exit)) r ⌝ }
+    requires { ⌜ (soundOf (now plan) ≡ run .opened) × (isCall kind ≡ false) × (kind ≤ LIST) × (length (now body) ≡ bodyLength kind) × (LONGEST ≤ length (now output)) × (now masks ≡ maskTable) ⌝ }
+    ensures { λ r. ⌜ ReadPromise (recordTurn (planHouse (now (plan .entry))) (run .lines) kind (now (body .entry))) (now (plan .entry)) run (now (output .entry)) (now (output .exit)) r ⌝ }
 {
     if kind == kinds::NUMBER {
         let answered = number_record(masks, plan, run.opened, body, output);
-        return line_of(NUMBER_RECORD, answered, run.opened, 0);
+        return line_of(NUMBER_RECORD, answered, run.opened, 0, run.whole);
     }
     if kind == kinds::REFS {
         let counted = refs_record(plan, run.opened, body, output);
-        return line_of(REFS_RECORD, counted, run.opened, 0);
+        return line_of(REFS_RECORD, counted, run.opened, 0, run.whole);
     }
     list_record(plan, run, output)
 }
@@ -187,7 +195,7 @@ fn opened_after(opened: bool, kind: u8, answer: Provisioned) -> bool
 // A record that opens or provisions.
 fn call_record(plan: &mut [u8], run: Run, kind: u8, body: &[u8], output: &mut [u8]) -> Line
     requires { ⌜ InRun (now plan) (run .opened) × (isCall kind ≡ true) × (length (now body) ≡ bodyLength kind) × (LONGEST ≤ length (now output)) ⌝ }
-    ensures { λ r. ⌜ LinePromise (recordTurn (houseOf (now (plan .entry))) (run .lines) kind (now (body .entry))) (now (plan .entry)) (now (output .entry)) (now (plan .exit)) (now (output .exit)) r ⌝ }
+    ensures { λ r. ⌜ PlanPromise (recordTurn (planHouse (now (plan .entry))) (run .lines) kind (now (body .entry))) (now (plan .entry)) run (now (output .entry)) (now (plan .exit)) (now (output .exit)) r ⌝ }
 {
     let answer = run::carry_out(plan, run.opened, kind, body);
     let written = text::accepted_line(answer, output);
@@ -196,11 +204,12 @@ fn call_record(plan: &mut [u8], run: Run, kind: u8, body: &[u8], output: &mut [u
         written,
         opened_after(run.opened, kind, answer),
         0,
+        run.whole,
     )
 }
 
-// A whole record.
-fn whole_record(
+// A record by the plan alone.
+fn plan_record(
     masks: &[u8],
     plan: &mut [u8],
     run: Run,
@@ -208,13 +217,77 @@ fn whole_record(
     body: &[u8],
     output: &mut [u8],
 ) -> Line
-    requires { ⌜ InRun (now plan) (run .opened) × (isKind kind ≡ true) × (length (now body) ≡ bodyLength kind) × (LONGEST ≤ length (now output)) × (now masks ≡ maskTable) ⌝ }
-    ensures { λ r. ⌜ LinePromise (recordTurn (houseOf (now (plan .entry))) (run .lines) kind (now (body .entry))) (now (plan .entry)) (now (output .entry)) (now (plan .exit)) (now (output .exit)) r ⌝ }
+    requires { ⌜ InRun (now plan) (run .opened) × (kind ≤ LIST) × (length (now body) ≡ bodyLength kind) × (LONGEST ≤ length (now output)) × (now masks ≡ maskTable) ⌝ }
+    ensures { λ r. ⌜ PlanPromise (recordTurn (planHouse (now (plan .entry))) (run .lines) kind (now (body .entry))) (now (plan .entry)) run (now (output .entry)) (now (plan .exit)) (now (output .exit)) r ⌝ }
 {
     if kinds::is_call(kind) {
         return call_record(plan, run, kind, body, output);
     }
     read_record(masks, plan, run, kind, body, output)
+}
+
+// A record of C-11: a call, a row of the price list, the losses.
+fn month_record(
+    masks: &[u8],
+    plan: &[u8],
+    prices: &mut [u8],
+    districts: &mut [i64; LEDGER_NUMBERS],
+    run: Run,
+    kind: u8,
+    body: &[u8],
+    output: &mut [u8],
+) -> Line
+    requires { ⌜ InHouse (lent (now plan) (now prices) (now districts) (run .whole)) (run .opened) × (LIST < kind) × (isKind kind ≡ true) × (length (now body) ≡ bodyLength kind) × (LONGEST ≤ length (now output)) × (now masks ≡ maskTable) ⌝ }
+    ensures { λ r. ⌜ LinePromise (recordTurn (houseOf (lent (now (plan .entry)) (now (prices .entry)) (now (districts .entry)) (run .whole))) (run .lines) kind (now (body .entry))) (lent (now (plan .entry)) (now (prices .entry)) (now (districts .entry)) (run .whole)) (now (output .entry)) (lent (now (plan .entry)) (now (prices .exit)) (now (districts .exit)) (r .run .whole)) (now (output .exit)) r ⌝ }
+{
+    if kind == kinds::CALL {
+        let entered = billing::charge_record(
+            masks,
+            plan,
+            run.opened,
+            prices,
+            districts,
+            run.whole,
+            body,
+            output,
+        );
+        return line_of(
+            1 + body.len(),
+            entered.written,
+            run.opened,
+            0,
+            entered.whole,
+        );
+    }
+    if kind == kinds::PRICE {
+        let added = billing::price_record(prices, body, output);
+        return line_of(1 + body.len(), added, run.opened, 0, run.whole);
+    }
+    let reported = billing::loss_record(districts, run.whole, run.lines, output);
+    if reported.last {
+        return line_of(LOSS_RECORD, reported.written, run.opened, 0, run.whole);
+    }
+    line_of(0, reported.written, run.opened, reported.next, run.whole)
+}
+
+// A whole record: by the plan alone, or one of C-11.
+fn whole_record(
+    masks: &[u8],
+    plan: &mut [u8],
+    prices: &mut [u8],
+    districts: &mut [i64; LEDGER_NUMBERS],
+    run: Run,
+    kind: u8,
+    body: &[u8],
+    output: &mut [u8],
+) -> Line
+    requires { ⌜ InHouse (lent (now plan) (now prices) (now districts) (run .whole)) (run .opened) × (isKind kind ≡ true) × (length (now body) ≡ bodyLength kind) × (LONGEST ≤ length (now output)) × (now masks ≡ maskTable) ⌝ }
+    ensures { λ r. ⌜ LinePromise (recordTurn (houseOf (lent (now (plan .entry)) (now (prices .entry)) (now (districts .entry)) (run .whole))) (run .lines) kind (now (body .entry))) (lent (now (plan .entry)) (now (prices .entry)) (now (districts .entry)) (run .whole)) (now (output .entry)) (lent (now (plan .exit)) (now (prices .exit)) (now (districts .exit)) (r .run .whole)) (now (output .exit)) r ⌝ }
+{
+    if kind <= kinds::LIST {
+        return plan_record(masks, plan, run, kind, body, output);
+    }
+    month_record(masks, plan, prices, districts, run, kind, body, output)
 }
 
 // A STEP
@@ -243,18 +316,20 @@ pub fn is_whole(input: &[u8]) -> bool
     kinds::body_length(input[0]) < input.len()
 }
 
-// One step: a record of the input at hand, or a line of a listing, whose line goes to the front of the output. Whether the memory holds a sound plan is known, and
-// the table of masks is made once for many steps.
+// One step: a record of the input at hand, or a line of one that has more, whose line goes to the front of the output. Whether the memory holds a sound plan is known,
+// and the table of masks is made once for many steps.
 pub fn step_by(
     masks: &[u8],
     plan: &mut [u8],
+    prices: &mut [u8],
+    districts: &mut [i64; LEDGER_NUMBERS],
     run: Run,
     ended: bool,
     input: &[u8],
     output: &mut [u8],
 ) -> Stepped
-    requires { ⌜ InRun (now plan) (run .opened) × (now masks ≡ maskTable) ⌝ }
-    ensures { λ r. ⌜ StepPromise (now (plan .entry)) (run .lines) ended (now (input .entry)) (now (output .entry)) (now (plan .exit)) (now (output .exit)) r ⌝ }
+    requires { ⌜ InHouse (lent (now plan) (now prices) (now districts) (run .whole)) (run .opened) × (now masks ≡ maskTable) ⌝ }
+    ensures { λ r. ⌜ StepPromise (lent (now (plan .entry)) (now (prices .entry)) (now (districts .entry)) (run .whole)) (run .lines) ended (now (input .entry)) (now (output .entry)) (lent (now (plan .exit)) (now (prices .exit)) (now (districts .exit)) (wholeBehind (run .whole) r)) (now (output .exit)) r ⌝ }
 {
     if input.len() == 0 {
         if ended {
@@ -279,35 +354,72 @@ pub fn step_by(
     if input.len() < end {
         return cut_record(ended, output);
     }
-    Stepped::Wrote(whole_record(masks, plan, run, kind, &input[1..end], output))
+    Stepped::Wrote(whole_record(
+        masks,
+        plan,
+        prices,
+        districts,
+        run,
+        kind,
+        &input[1..end],
+        output,
+    ))
 }
 
 // The same for one step.
 pub fn step_known(
     plan: &mut [u8],
+    prices: &mut [u8],
+    districts: &mut [i64; LEDGER_NUMBERS],
     run: Run,
     ended: bool,
     input: &[u8],
     output: &mut [u8],
 ) -> Stepped
-    requires { ⌜ InRun (now plan) (run .opened) ⌝ }
-    ensures { λ r. ⌜ StepPromise (now (plan .entry)) (run .lines) ended (now (input .entry)) (now (output .entry)) (now (plan .exit)) (now (output .exit)) r ⌝ }
+    requires { ⌜ InHouse (lent (now plan) (now prices) (now districts) (run .whole)) (run .opened) ⌝ }
+    ensures { λ r. ⌜ StepPromise (lent (now (plan .entry)) (now (prices .entry)) (now (districts .entry)) (run .whole)) (run .lines) ended (now (input .entry)) (now (output .entry)) (lent (now (plan .exit)) (now (prices .exit)) (now (districts .exit)) (wholeBehind (run .whole) r)) (now (output .exit)) r ⌝ }
 {
     let mut masks = [0xffu8; 64];
     blocks::mask_digits(&mut masks);
-    step_by(&masks, plan, run, ended, input, output)
+    step_by(&masks, plan, prices, districts, run, ended, input, output)
 }
 
-// One step over any memory, any input and any output, with so many lines of a listing written already.
-pub fn step(plan: &mut [u8], lines: u16, ended: bool, input: &[u8], output: &mut [u8]) -> AnyStep
-    ensures { λ r. ⌜ AnyStepPromise (now (plan .entry)) lines ended (now (input .entry)) (now (output .entry)) (now (plan .exit)) (now (output .exit)) r ⌝ }
+// How many numbers are lent.
+fn numbers(districts: &[i64]) -> usize
+    ensures { λ r. ⌜ r ≡ length (now (districts .entry)) ⌝ }
+{
+    districts.len()
+}
+
+// One step over anything lent, any input and any output, with the whole's totals of the ledger and so many lines of a record counted already.
+pub fn step(
+    plan: &mut [u8],
+    prices: &mut [u8],
+    districts: &mut [i64; LEDGER_NUMBERS],
+    whole: Totals,
+    lines: u16,
+    ended: bool,
+    input: &[u8],
+    output: &mut [u8],
+) -> AnyStep
+    ensures { λ r. ⌜ AnyStepPromise (lent (now (plan .entry)) (now (prices .entry)) (now (districts .entry)) whole) lines ended (now (input .entry)) (now (output .entry)) (lent (now (plan .exit)) (now (prices .exit)) (now (districts .exit)) (wholeAfter whole r)) (now (output .exit)) r ⌝ }
 {
     if plan.len() < RUN_BYTES {
-        return AnyStep::Small;
+        return AnyStep::Unfit;
+    }
+    if !prices::in_range(prices) {
+        return AnyStep::Unfit;
+    }
+    if numbers(districts) != LEDGER_NUMBERS {
+        return AnyStep::Unfit;
+    }
+    if !ledger::in_range(districts, whole) {
+        return AnyStep::Unfit;
     }
     let run = Run {
         opened: examiner::sound(plan),
         lines: lines,
+        whole: whole,
     };
-    AnyStep::Took(step_known(plan, run, ended, input, output))
+    AnyStep::Took(step_known(plan, prices, districts, run, ended, input, output))
 }

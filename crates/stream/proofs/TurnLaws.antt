@@ -5,6 +5,7 @@ use mathlib.Core.Logic.{_⊎_, inl, inr}
 use mathlib.Core.Bool.{Bool, true, false}
 use mathlib.Core.List.{List, [], _++_, append-assoc}
 use native.Mathlib.Omega.{arith}
+use lib.IntN.{ℤ}
 use lib.ListN.{length, take, drop, length-drop, take-append-drop, drop-of-length-le}
 use lib.Dec.{ltb}
 use borrow.Author.Tests.{ltb-true, ltb-false}
@@ -14,14 +15,14 @@ use Rattle.buffer.proofs.ListLaws.{drop-take}
 use Rattle.text.specs.Writes.{LONGEST}
 use Rattle.record.specs.Turns.{wants, turn, isWhole}
 use Rattle.record.specs.declared.Run.{Run}
-use Rattle.record.specs.Promises.{houseOf, Runs, RunEnd, runEndHere, runEndBehind}
+use Rattle.record.specs.Promises.{Lent, lent, houseOf, Runs, RunEnd, runEndHere, runEndBehind}
 use Rattle.record.proofs.Steps.{room-turn-goes, ended-turn-goes, whole-turn-goes}
 use Rattle.pump.specs.Pumps.{PumpPromise}
 use Rattle.pump.specs.declared.Pumped.{Pumped}
 use Rattle.descriptors.specs.Moves.{MOST, sent}
 use Rattle.descriptors.specs.declared.Sink.{Sink}
 use Rattle.descriptors.specs.declared.AtHand.{AtHand}
-use Rattle.stream.specs.Turnings.{leftOf, leftIn, GatherPromise, restBy, endingBy, turnedBy, Advanceable, Turnable, Turning}
+use Rattle.stream.specs.Turnings.{leftOf, leftIn, GatherPromise, restBy, endingBy, turnedBy, restIn, Advanceable, Turnable, Turning}
 use Rattle.stream.specs.Copies.{givenIn, writtenIn}
 use Rattle.stream.specs.declared.Rest.{Rest}
 use Rattle.stream.specs.declared.Turned.{Turned}
@@ -53,11 +54,11 @@ module _ (hand : AtHand) (pumped : Pumped) (sink : Sink) (n : ℕ) where
 
 -- WHAT WAS AT HAND
 
-pub hand-of : {m : List ℕ} {rest : Rest} {room : ℕ} (input input-left : List ℕ) (h : AtHand) → Turnable m rest (length input) room → GatherPromise rest input input-left h
+pub hand-of : {m : Lent} {rest : Rest} {room : ℕ} (input input-left : List ℕ) (h : AtHand) → Turnable m rest (length input) room → GatherPromise rest input input-left h
     → Hand rest input input-left h
 hand-of {rest = rest} input input-left h r s = hand-facts rest input input-left h (r .left .placed) (r .left .inside) s
 
-module _ {m : List ℕ} {rest : Rest} {input output after input-left output-left : List ℕ} {t : Turned} (ready : Turnable m rest (length input) (length output))
+module _ {m after : Lent} {rest : Rest} {input output input-left output-left : List ℕ} {t : Turned} (ready : Turnable m rest (length input) (length output))
     (w : Turning m rest input output after input-left output-left t) where
   abbrev h : AtHand
   h = w .hand
@@ -115,7 +116,7 @@ module _ {m : List ℕ} {rest : Rest} {input output after input-left output-left
     pub next-ready : h .source .given + length input ≤ MOST → rest .sink .written + p .written + length output ≤ MOST → Turnable after next (length input-left) (length output-left)
     next-ready c d =
         record {
-          in-run = w .so .steps .in-run;
+          in-house = w .so .steps .in-house;
           left =
               record {
                 placed = taken-inside;
@@ -184,7 +185,7 @@ module _ {m : List ℕ} {rest : Rest} {input output after input-left output-left
 
 -- BY THE ANSWER
 
-module _ {m : List ℕ} {rest : Rest} {input output after input-left output-left : List ℕ} where
+module _ {m after : Lent} {rest : Rest} {input output input-left output-left : List ℕ} where
   pub as-turned : {t : Turned} (w : Turning m rest input output after input-left output-left t) → TurnedAs (w .hand) (w .so .pumped) (rest .sink) (w .so .pumped .written) t
   as-turned w =
       subst (TurnedAs (w .hand) (w .so .pumped) (rest .sink) (w .so .pumped .written)) (sym (w .so .is))
@@ -192,23 +193,37 @@ module _ {m : List ℕ} {rest : Rest} {input output after input-left output-left
 
 -- FOR THE FUNCTIONS
 
--- steps over the input that is lent are steps over what is at hand
-pub steps-at-hand : {m output after output-left : List ℕ} {run : Run} {ended said : Bool} {p : Pumped} (e : ℕ) (input : List ℕ) → said ≡ ended
-    → PumpPromise m run said (take (e - 0) input) output after output-left p → PumpPromise m run ended (take e input) output after output-left p
-steps-at-hand e input i q = rw (front-is e input, i) at q
+-- however a turn ended, the state is the one that the steps left
+turned-run : (h : AtHand) (p : Pumped) (sink : Sink) → restIn (turnedBy h p sink) .run ≡ p .run
+turned-run h p sink = go (sink .failed) (p .over)
+  where
+    go : (a b : Bool)
+        → restIn (if a then NotWritten (restBy h p sink) else if b then Done (endingBy h p sink) else Goes (restBy h p sink)) .run ≡ p .run
+    go true b = refl
+    go false true = refl
+    go false false = refl
 
-pub may-conclude : {m : List ℕ} {rest : Rest} {output after output-left : List ℕ} {run : Run} {ended : Bool} {p : Pumped} (input : List ℕ) (h : AtHand) (room : ℕ)
+-- steps over the input that is lent are steps over what is at hand
+pub steps-at-hand : {m : Lent} {plan prices output output-left : List ℕ} {districts : List ℤ} {run : Run} {ended said : Bool} {p : Pumped} {t : Turned} (h : AtHand) (sink : Sink)
+    (input : List ℕ) → said ≡ ended → t ≡ turnedBy h p sink
+    → PumpPromise m run said (take (h .end - 0) input) output (lent plan prices districts (p .run .whole)) output-left p
+    → PumpPromise m run ended (take (h .end) input) output (lent plan prices districts (restIn t .run .whole)) output-left p
+steps-at-hand {p = p} {t} h sink input i is q =
+    let same : restIn t .run ≡ p .run = ap (λ (x : Turned). restIn x .run) is ∙ turned-run h p sink in
+    rw same (rw (front-is (h .end) input, i) at q)
+
+pub may-conclude : {m after : Lent} {rest : Rest} {output output-left : List ℕ} {run : Run} {ended : Bool} {p : Pumped} (input : List ℕ) (h : AtHand) (room : ℕ)
     → Advanceable m rest h (length input) room → PumpPromise m run ended (take (h .end - 0) input) output after output-left p → (p .taken ≤ h .end) × (h .end - p .taken ≤ h .source .given)
 may-conclude {p = p} input h room r q =
     let long : length (take (h .end - 0) input) ≡ h .end - 0 = length-take-le (h .end - 0) input (omega (arith, r .inside)) in
     (omega (arith, q .inside, long), omega (arith, r .hand-given))
 
-pub may-advance : {m : List ℕ} {rest : Rest} {room : ℕ} (input input-left : List ℕ) (h : AtHand) → Turnable m rest (length input) room → GatherPromise rest input input-left h
+pub may-advance : {m : Lent} {rest : Rest} {room : ℕ} (input input-left : List ℕ) (h : AtHand) → Turnable m rest (length input) room → GatherPromise rest input input-left h
     → Advanceable m rest h (length input-left) room
 may-advance input input-left h r s =
     let f = hand-of input input-left h r s in
     record {
-      in-run = r .in-run;
+      in-house = r .in-house;
       inside = omega (arith, f .inside, f .long);
       hand-given = omega (arith, f .counted, r .left-given, f .more);
       not-failed = r .not-failed;

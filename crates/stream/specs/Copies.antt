@@ -6,9 +6,11 @@ use mathlib.Core.Bool.{true}
 use mathlib.Core.List.{List, [], _++_}
 use lib.IntN.{ℤ}
 use lib.ListN.{length, take, drop}
+use Rattle.meaning.specs.Ledger.{emptyLedger}
 use Rattle.meaning.specs.Records.{fileText, fileEnd}
 use Rattle.buffer.specs.Zeros.{zeros}
-use Rattle.record.specs.Promises.{houseOf, start}
+use Rattle.record.specs.declared.Run.{Run}
+use Rattle.record.specs.Promises.{Lent, houseOf, start, newLent}
 use Rattle.descriptors.specs.Moves.{newSource, newSink}
 use Rattle.stream.specs.Turnings.{leftOf, Turnable, UnreadTurn, Turning}
 use Rattle.stream.specs.declared.Rest.{Rest}
@@ -27,36 +29,43 @@ TURNS = 140737488355328
 abbrev pub first : ℤ → ℤ → Rest
 first from to = record { run = start; source = newSource from; sink = newSink to; at = 0; end = 0 }
 
+-- what is lent is cleared first
+pub record BeginPromise (plan prices plan-left prices-left : List ℕ) (districts-left : List ℤ) (run : Run) : Type 0 where
+  pub run-is : run ≡ start
+  pub no-plan : plan-left ≡ zeros (length plan)
+  pub no-rows : prices-left ≡ zeros (length prices)
+  pub no-records : districts-left ≡ emptyLedger .districts
+
 -- what a turn was given: the bytes that stand behind what was left when it returns; and what it wrote: the front of the output
-module _ {m : List ℕ} {rest : Rest} {input output after input-left output-left : List ℕ} {t : Turned} where
+module _ {m after : Lent} {rest : Rest} {input output input-left output-left : List ℕ} {t : Turned} where
   abbrev pub givenIn : Turning m rest input output after input-left output-left t → List ℕ
   givenIn w = drop (leftOf rest) (take (w .hand .end) input-left)
 
   abbrev pub writtenIn : Turning m rest input output after input-left output-left t → List ℕ
   writtenIn w = take (w .so .pumped .written) output-left
 
--- CHAINS OF TURNS from a cleared memory and two buffers, each getting what the last one left: how many; what they were given and what they wrote; and the memory, the
--- state and the buffers that they leave
-pub data Chain (from to : ℤ) (size : ℕ) (first-input first-output : List ℕ) : ℕ → List ℕ → List ℕ → List ℕ → Rest → List ℕ → List ℕ → Type 0 where
-  begun : Chain from to size first-input first-output 0 [] [] (zeros size) (first from to) first-input first-output
-  turned : {n : ℕ} {given written m input output after input-left output-left : List ℕ} {rest next : Rest}
+-- CHAINS OF TURNS from a cleared memory, price list and ledger and two buffers, each getting what the last one left: how many; what they were given and what they wrote;
+-- and what is lent, the state and the buffers as they leave them
+pub data Chain (from to : ℤ) (size : ℕ) (first-input first-output : List ℕ) : ℕ → List ℕ → List ℕ → Lent → Rest → List ℕ → List ℕ → Type 0 where
+  begun : Chain from to size first-input first-output 0 [] [] (newLent (zeros size)) (first from to) first-input first-output
+  turned : {n : ℕ} {given written : List ℕ} {m after : Lent} {input output input-left output-left : List ℕ} {rest next : Rest}
       → Chain from to size first-input first-output n given written m rest input output → Turnable m rest (length input) (length output)
       → (w : Turning m rest input output after input-left output-left (Goes next))
       → Chain from to size first-input first-output (n + 1) (given ++ givenIn w) (written ++ writtenIn w) after next input-left output-left
 
--- THE PROMISE OF A COPY: a chain of turns, and how the last one ended, over the memory and the buffers that are left
-abbrev pub LastTurn : List ℕ → Rest → List ℕ → List ℕ → List ℕ → List ℕ → List ℕ → ℕ → Turned → Type 0
+-- THE PROMISE OF A COPY: a chain of turns, and how the last one ended, over what is lent and the buffers as they are left
+abbrev pub LastTurn : Lent → Rest → List ℕ → List ℕ → Lent → List ℕ → List ℕ → ℕ → Turned → Type 0
 LastTurn m rest input output after input-left output-left n (Goes next) = ⊥
 LastTurn m rest input output after input-left output-left n (Done e) = Turning m rest input output after input-left output-left (Done e)
 LastTurn m rest input output after input-left output-left n (NotRead r) = UnreadTurn m rest input output after input-left output-left (NotRead r)
 LastTurn m rest input output after input-left output-left n (NotWritten r) = Turning m rest input output after input-left output-left (NotWritten r)
 LastTurn m rest input output after input-left output-left n (Spent r) = (n ≡ TURNS) × (r ≡ rest) × (after ≡ m) × (input-left ≡ input) × (output-left ≡ output)
 
-pub record CopyPromise (from to : ℤ) (size : ℕ) (first-input first-output after input-left output-left : List ℕ) (t : Turned) : Type 0 where
+pub record CopyPromise (from to : ℤ) (size : ℕ) (first-input first-output : List ℕ) (after : Lent) (input-left output-left : List ℕ) (t : Turned) : Type 0 where
   pub turns : ℕ
   pub given : List ℕ
   pub written : List ℕ
-  pub memory : List ℕ
+  pub memory : Lent
   pub rest : Rest
   pub input : List ℕ
   pub output : List ℕ
@@ -64,10 +73,10 @@ pub record CopyPromise (from to : ℤ) (size : ℕ) (first-input first-output af
   pub ready : Turnable memory rest (length input) (length output)
   pub ends : LastTurn memory rest input output after input-left output-left turns t
 
--- THE CLAIM: what the turns of a copy that is done wrote, all of it in order, is document 01's text of the file, and reading ended where and as it says, with its plan
--- in the memory. The file is all that the turns were given, in order, and whatever comes behind it where the input had not ended. The source counts all that was
+-- THE CLAIM: what the turns of a copy that is done wrote, all of it in order, is document 01's text of the file, and reading ended where and as it says, with its plan,
+-- its price list and its ledger in what is lent. The file is all that the turns were given, in order, and whatever comes behind it where the input had not ended. The source counts all that was
 -- given, and the sink all that was written. That the system gave and took these very bytes no promise says (docs/PROMISES.md).
-pub record WholeFile (given written after : List ℕ) (e : Ending) : Type 0 where
+pub record WholeFile (given written : List ℕ) (after : Lent) (e : Ending) : Type 0 where
   pub text-is : (more : List ℕ) → (e .rest .source .ended ≡ true → more ≡ []) → written ≡ fileText (given ++ more)
   pub end-is : (more : List ℕ) → (e .rest .source .ended ≡ true → more ≡ []) → record { refusal = e .refusal; place = e .place; house = houseOf after } ≡ fileEnd (given ++ more)
   pub all-given : e .rest .source .given ≡ length given
@@ -79,7 +88,7 @@ pub record Begins (text front : List ℕ) : Type 0 where
   pub is : text ≡ front ++ behind
 
 -- for every copy, by its promise
-module _ (from to : ℤ) (size : ℕ) (first-input first-output after input-left output-left : List ℕ) where
+module _ (from to : ℤ) (size : ℕ) (first-input first-output : List ℕ) (after : Lent) (input-left output-left : List ℕ) where
   abbrev pub AnyCopy : Type 0
   AnyCopy = (e : Ending) (c : CopyPromise from to size first-input first-output after input-left output-left (Done e))
       → WholeFile (c .given ++ givenIn (c .ends)) (c .written ++ writtenIn (c .ends)) after e
@@ -100,5 +109,5 @@ module _ (from to : ℤ) (size : ℕ) (first-input first-output after input-left
 
 -- since a turn was given a byte, or wrote one, or is the last
 abbrev pub EachMoves : Type 0
-EachMoves = (m : List ℕ) (rest : Rest) (input output after input-left output-left : List ℕ) (next : Rest) → Turnable m rest (length input) (length output)
+EachMoves = (m : Lent) (rest : Rest) (input output : List ℕ) (after : Lent) (input-left output-left : List ℕ) (next : Rest) → Turnable m rest (length input) (length output)
     → (w : Turning m rest input output after input-left output-left (Goes next)) → (1 ≤ length (givenIn w)) ⊎ (1 ≤ length (writtenIn w))

@@ -8,8 +8,8 @@ use lib.ListN.{length, take, drop}
 use Rattle.meaning.specs.Sizes.{LONGEST-RECORD}
 use Rattle.meaning.specs.Basics.{if_then_else_, writtenOver}
 use Rattle.text.specs.Writes.{LONGEST}
-use Rattle.run.specs.Runs.{InRun}
 use Rattle.record.specs.Turns.{isWhole}
+use Rattle.record.specs.Promises.{Lent, InHouse}
 use Rattle.pump.specs.Pumps.{PumpPromise}
 use Rattle.pump.specs.declared.Pumped.{Pumped}
 use Rattle.descriptors.specs.Moves.{MOST, FillPromise, sent}
@@ -19,7 +19,7 @@ use Rattle.descriptors.specs.declared.AtHand.{AtHand}
 use Rattle.stream.specs.declared.Rest.{Rest}
 use Rattle.stream.specs.declared.Ending.{Ending}
 use Rattle.stream.specs.declared.Turned.{Turned}
-use Rattle.stream.specs.declared.Turned.the-variants.{Goes, Done, NotRead, NotWritten}
+use Rattle.stream.specs.declared.Turned.the-variants.{Goes, Done, NotRead, NotWritten, Spent}
 
 -- WHAT IS LEFT OF THE INPUT
 
@@ -79,29 +79,37 @@ abbrev pub turnedBy : AtHand → Pumped → Sink → Turned
 turnedBy hand pumped sink =
     if sink .failed then NotWritten (restBy hand pumped sink) else if pumped .over then Done (endingBy hand pumped sink) else Goes (restBy hand pumped sink)
 
+-- where the copy stands then; the state of the run holds the whole's totals of the ledger
+abbrev pub restIn : Turned → Rest
+restIn (Goes r) = r
+restIn (Done e) = e .rest
+restIn (NotRead r) = r
+restIn (NotWritten r) = r
+restIn (Spent r) = r
+
 -- WHAT IS DONE WITH THE INPUT AT HAND
 
 -- a read failed, and no step was taken
-pub record Unread (m : List ℕ) (rest : Rest) (hand : AtHand) (output after output-left : List ℕ) (t : Turned) : Type 0 where
+pub record Unread (m : Lent) (rest : Rest) (hand : AtHand) (output : List ℕ) (after : Lent) (output-left : List ℕ) (t : Turned) : Type 0 where
   pub failed : hand .source .failed ≡ true
   pub memory-is : after ≡ m
   pub output-is : output-left ≡ output
   pub is : t ≡ NotRead (unreadOf rest hand)
 
 -- or steps over it, whose text is at the front of the output; `done` is what the system said of the write
-pub record Stepped (m : List ℕ) (rest : Rest) (hand : AtHand) (input output after output-left : List ℕ) (t : Turned) : Type 0 where
+pub record Stepped (m : Lent) (rest : Rest) (hand : AtHand) (input output : List ℕ) (after : Lent) (output-left : List ℕ) (t : Turned) : Type 0 where
   pub read : hand .source .failed ≡ false
   pub pumped : Pumped
   pub steps : PumpPromise m (rest .run) (hand .source .ended) (take (hand .end) input) output after output-left pumped
   pub done : Bool
   pub is : t ≡ turnedBy hand pumped (sent (rest .sink) (pumped .written) done)
 
-abbrev pub AdvancePromise : List ℕ → Rest → AtHand → List ℕ → List ℕ → List ℕ → List ℕ → Turned → Type 0
+abbrev pub AdvancePromise : Lent → Rest → AtHand → List ℕ → List ℕ → Lent → List ℕ → Turned → Type 0
 AdvancePromise m rest hand input output after output-left t = Unread m rest hand output after output-left t ⊎ Stepped m rest hand input output after output-left t
 
--- the memory is a run's, what is at hand lies in the input and was given, and the sink has not failed and can count what the output holds
-pub record Advanceable (m : List ℕ) (rest : Rest) (hand : AtHand) (input output : ℕ) : Type 0 where
-  pub in-run : InRun m (rest .run .opened)
+-- what is lent is a run's, what is at hand lies in the input and was given, and the sink has not failed and can count what the output holds
+pub record Advanceable (m : Lent) (rest : Rest) (hand : AtHand) (input output : ℕ) : Type 0 where
+  pub in-house : InHouse m (rest .run .opened)
   pub inside : hand .end ≤ input
   pub hand-given : hand .end ≤ hand .source .given
   pub not-failed : rest .sink .failed ≡ false
@@ -115,19 +123,19 @@ pub record Gathered (rest : Rest) (input input-left : List ℕ) (Holds : AtHand 
   pub gathers : GatherPromise rest input input-left hand
   pub so : Holds hand
 
-abbrev pub TurnPromise : List ℕ → Rest → List ℕ → List ℕ → List ℕ → List ℕ → List ℕ → Turned → Type 0
+abbrev pub TurnPromise : Lent → Rest → List ℕ → List ℕ → Lent → List ℕ → List ℕ → Turned → Type 0
 TurnPromise m rest input output after input-left output-left t = Gathered rest input input-left (λ hand. AdvancePromise m rest hand input-left output after output-left t)
 
 -- by what was done
-abbrev pub UnreadTurn : List ℕ → Rest → List ℕ → List ℕ → List ℕ → List ℕ → List ℕ → Turned → Type 0
+abbrev pub UnreadTurn : Lent → Rest → List ℕ → List ℕ → Lent → List ℕ → List ℕ → Turned → Type 0
 UnreadTurn m rest input output after input-left output-left t = Gathered rest input input-left (λ hand. Unread m rest hand output after output-left t)
 
-abbrev pub Turning : List ℕ → Rest → List ℕ → List ℕ → List ℕ → List ℕ → List ℕ → Turned → Type 0
+abbrev pub Turning : Lent → Rest → List ℕ → List ℕ → Lent → List ℕ → List ℕ → Turned → Type 0
 Turning m rest input output after input-left output-left t = Gathered rest input input-left (λ hand. Stepped m rest hand input-left output after output-left t)
 
--- what a turn asks: a memory of a run, what is left of the input, of bytes that were given, room for a line, and a sink that has not failed
-pub record Turnable (m : List ℕ) (rest : Rest) (input output : ℕ) : Type 0 where
-  pub in-run : InRun m (rest .run .opened)
+-- what a turn asks: what is lent is a run's, what is left of the input, of bytes that were given, room for a line, and a sink that has not failed
+pub record Turnable (m : Lent) (rest : Rest) (input output : ℕ) : Type 0 where
+  pub in-house : InHouse m (rest .run .opened)
   pub left : Gatherable rest input
   pub left-given : leftOf rest ≤ rest .source .given
   pub room : LONGEST ≤ output

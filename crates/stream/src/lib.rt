@@ -4,17 +4,18 @@ ghost use mathlib.Core.Path.{_≡_};
 ghost use mathlib.Core.Bool.{false};
 ghost use Prim.Native.Nat.{_+_, _-_, _≤_};
 ghost use lib.ListN.{length, take, drop};
-ghost use Rattle.meaning.specs.Sizes.{LONGEST-RECORD, RUN-BYTES};
+ghost use Rattle.meaning.specs.Sizes.{LONGEST-RECORD, PRICES-BYTES, RUN-BYTES};
 ghost use Rattle.meaning.specs.Basics.{writtenOver};
-ghost use Rattle.buffer.specs.Zeros.{zeros};
 ghost use Rattle.text.specs.Writes.{LONGEST};
-ghost use Rattle.record.specs.Promises.{start};
+ghost use Rattle.record.specs.Promises.{lent};
 ghost use Rattle.descriptors.specs.Moves.{MOST, WritePromise};
-ghost use Rattle.stream.specs.Turnings.{SupplyPromise, Suppliable, GatherPromise, Gatherable, unreadOf, turnedBy, AdvancePromise, Advanceable, Turnable, TurnPromise};
-ghost use Rattle.stream.specs.Copies.{BUFFER, CopyPromise};
+ghost use Rattle.stream.specs.Turnings.{SupplyPromise, Suppliable, GatherPromise, Gatherable, unreadOf, turnedBy, restIn, AdvancePromise, Advanceable, Turnable, TurnPromise};
+ghost use Rattle.stream.specs.Copies.{BUFFER, BeginPromise, CopyPromise};
 use descriptors::AtHand;
 use descriptors::Sink;
 use descriptors::Source;
+use meaning::Totals;
+use meaning::sizes::LEDGER_NUMBERS;
 use pump::Pumped;
 use record::Run;
 
@@ -48,14 +49,21 @@ pub enum Turned {
 // The most turns of a copy.
 const TURNS: u64 = 140737488355328;
 
-// The state that a run begins with: the memory is cleared, so that it holds no plan.
-fn begin(plan: &mut [u8]) -> Run
-    ensures { λ r. ⌜ (r ≡ start) × (now (plan .exit) ≡ zeros (length (now (plan .entry)))) ⌝ }
+// The state that a run begins with: what is lent is cleared, so that it holds no plan, no row and no record.
+fn begin(plan: &mut [u8], prices: &mut [u8], districts: &mut [i64; LEDGER_NUMBERS]) -> Run
+    ensures { λ r. ⌜ BeginPromise (now (plan .entry)) (now (prices .entry)) (now (plan .exit)) (now (prices .exit)) (now (districts .exit)) r ⌝ }
 {
     buffer::clear(plan);
+    buffer::clear(prices);
+    ledger::clear(districts);
     Run {
         opened: false,
         lines: 0,
+        whole: Totals {
+            count: 0,
+            due: 0,
+            billed: 0,
+        },
     }
 }
 
@@ -150,38 +158,69 @@ fn conclude(h: AtHand, p: Pumped, sink: Sink) -> Turned
 }
 
 // Steps over the input at hand, and a write of what they wrote; nothing where the read failed.
-fn advance(plan: &mut [u8], rest: Rest, h: AtHand, input: &[u8], output: &mut [u8]) -> Turned
-    requires { ⌜ Advanceable (now plan) rest h (length (now input)) (length (now output)) ⌝ }
-    ensures { λ r. ⌜ AdvancePromise (now (plan .entry)) rest h (now (input .entry)) (now (output .entry)) (now (plan .exit)) (now (output .exit)) r ⌝ }
+fn advance(
+    plan: &mut [u8],
+    prices: &mut [u8],
+    districts: &mut [i64; LEDGER_NUMBERS],
+    rest: Rest,
+    h: AtHand,
+    input: &[u8],
+    output: &mut [u8],
+) -> Turned
+    requires { ⌜ Advanceable (lent (now plan) (now prices) (now districts) (rest .run .whole)) rest h (length (now input)) (length (now output)) ⌝ }
+    ensures { λ r. ⌜ AdvancePromise (lent (now (plan .entry)) (now (prices .entry)) (now (districts .entry)) (rest .run .whole)) rest h (now (input .entry)) (now (output .entry)) (lent (now (plan .exit)) (now (prices .exit)) (now (districts .exit)) (restIn r .run .whole)) (now (output .exit)) r ⌝ }
 {
     let source = h.source;
     if source.failed() {
         return Turned::NotRead(unread(rest, h));
     }
     let end = h.end;
-    let p = pump::pump(plan, rest.run, source.ended(), &input[0..end], output);
+    let p = pump::pump(
+        plan,
+        prices,
+        districts,
+        rest.run,
+        source.ended(),
+        &input[0..end],
+        output,
+    );
     let sink = hand(rest.sink, p, output);
     conclude(h, p, sink)
 }
 
 // A read behind what is left, or none, and what is done with the input at hand.
-fn turn(plan: &mut [u8], rest: Rest, input: &mut [u8], output: &mut [u8]) -> Turned
-    requires { ⌜ Turnable (now plan) rest (length (now input)) (length (now output)) ⌝ }
-    ensures { λ r. ⌜ TurnPromise (now (plan .entry)) rest (now (input .entry)) (now (output .entry)) (now (plan .exit)) (now (input .exit)) (now (output .exit)) r ⌝ }
+fn turn(
+    plan: &mut [u8],
+    prices: &mut [u8],
+    districts: &mut [i64; LEDGER_NUMBERS],
+    rest: Rest,
+    input: &mut [u8],
+    output: &mut [u8],
+) -> Turned
+    requires { ⌜ Turnable (lent (now plan) (now prices) (now districts) (rest .run .whole)) rest (length (now input)) (length (now output)) ⌝ }
+    ensures { λ r. ⌜ TurnPromise (lent (now (plan .entry)) (now (prices .entry)) (now (districts .entry)) (rest .run .whole)) rest (now (input .entry)) (now (output .entry)) (lent (now (plan .exit)) (now (prices .exit)) (now (districts .exit)) (restIn r .run .whole)) (now (input .exit)) (now (output .exit)) r ⌝ }
 {
     let h = gather(rest, input);
-    advance(plan, rest, h, input, output)
+    advance(plan, prices, districts, rest, h, input, output)
 }
 
 // ALL TURNS
 
 // Writes to one descriptor the lines of the house records that another gives, to its end or until reading has ended.
-pub fn copy(from: i32, to: i32, plan: &mut [u8], input: &mut [u8], output: &mut [u8]) -> Turned
-    requires { ⌜ (RUN-BYTES ≤ length (now plan)) × (LONGEST-RECORD ≤ length (now input)) × (LONGEST ≤ length (now output)) ⌝ }
+pub fn copy(
+    from: i32,
+    to: i32,
+    plan: &mut [u8],
+    prices: &mut [u8],
+    districts: &mut [i64; LEDGER_NUMBERS],
+    input: &mut [u8],
+    output: &mut [u8],
+) -> Turned
+    requires { ⌜ (RUN-BYTES ≤ length (now plan)) × (length (now prices) ≡ PRICES-BYTES) × (LONGEST-RECORD ≤ length (now input)) × (LONGEST ≤ length (now output)) ⌝ }
     requires { ⌜ (length (now input) ≤ BUFFER) × (length (now output) ≤ BUFFER) ⌝ }
-    ensures { λ r. ⌜ CopyPromise from to (length (now (plan .entry))) (now (input .entry)) (now (output .entry)) (now (plan .exit)) (now (input .exit)) (now (output .exit)) r ⌝ }
+    ensures { λ r. ⌜ CopyPromise from to (length (now (plan .entry))) (now (input .entry)) (now (output .entry)) (lent (now (plan .exit)) (now (prices .exit)) (now (districts .exit)) (restIn r .run .whole)) (now (input .exit)) (now (output .exit)) r ⌝ }
 {
-    let run = begin(plan);
+    let run = begin(plan, prices, districts);
     let mut rest = Rest {
         run: run,
         source: Source::new(from),
@@ -191,7 +230,7 @@ pub fn copy(from: i32, to: i32, plan: &mut [u8], input: &mut [u8], output: &mut 
     };
     let mut turns = TURNS;
     while turns > 0 {
-        let t = turn(plan, rest, input, output);
+        let t = turn(plan, prices, districts, rest, input, output);
         let Turned::Goes(next) = t else {
             return t;
         };

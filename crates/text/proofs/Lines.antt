@@ -59,7 +59,7 @@ decimal-more n h =
     ∙ in-hand n (n / 10) [] x ∙ ap (λ (ds : List ℕ). ds ++ x) (enough n (suc (n / 10)) (n / 10) [] (omega arith) (omega arith))
 
 -- no more digits than the powers of ten say
-decimal-long : (k n : ℕ) → n < 10 ^ suc k → length (decimal n) ≤ suc k
+pub decimal-long : (k n : ℕ) → n < 10 ^ suc k → length (decimal n) ≤ suc k
 decimal-long zero n h = rw (decimal-one n h) (omega arith)
 decimal-long (suc k) n h = go (ltb n 10) refl (decimal-long k (n / 10))
   where

@@ -2,6 +2,8 @@
 use Prim.Native.Nat.{ℕ, _+_, _≤_, _<_}
 use mathlib.Core.Path.{_≡_}
 use mathlib.Core.List.{List, [], _∷_, map}
+use lib.IntN.{ℤ}
+use lib.Signed.{mag}
 use lib.ListN.{length, take}
 use lib.Dec.{T}
 use Rattle.meaning.specs.Basics.{all, isDigit, writtenOver}
@@ -63,3 +65,9 @@ pub record NumberIn (a : Answered) (ds : List ℕ) : Type 0 where
 -- what stands before the digits
 unfoldable pub headText : ℕ → ℕ → ℕ → ℕ → List ℕ
 headText outcome class response count = (48 + outcome) ∷ 32 ∷ (48 + class) ∷ 32 ∷ (48 + response) ∷ 32 ∷ (48 + count) ∷ 32 ∷ []
+
+-- LOSSES
+
+-- whole cents that a ledger in range can lose: 10,000,000 records of 86,400,000,000 units at 60,000 a cent
+pub record Printable (x : ℤ) : Type 0 where
+  pub size : mag x ≤ 14400000000000

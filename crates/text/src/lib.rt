@@ -4,11 +4,12 @@ ghost use mathlib.Core.List.{_++_, [], _∷_, map};
 ghost use Prim.Native.Nat.{_+_, _≤_, _<_};
 ghost use lib.ListN.{length, take};
 ghost use lib.Dec.{T};
+ghost use lib.IntN.{natAbs};
 ghost use Rattle.meaning.specs.Basics.{all, isDigit, writtenOver};
 ghost use Rattle.meaning.specs.Answers.{numberOfProvisioned, countOf};
-ghost use Rattle.meaning.specs.Records.{decimal, digitText, prefixText, lengthText, noLine, acceptedLine, numberLine, refsLine, listedLine, endLine};
+ghost use Rattle.meaning.specs.Records.{decimal, digitText, prefixText, lengthText, noLine, acceptedLine, numberLine, refsLine, listedLine, endLine, line, signedDecimal};
 ghost use Rattle.blocks.specs.Endian.{bytesOf};
-ghost use Rattle.text.specs.Writes.{Writes, LONGEST, digitsOr, listedOf, ListedIn, answerIn, NumberIn, headText};
+ghost use Rattle.text.specs.Writes.{Writes, LONGEST, digitsOr, listedOf, ListedIn, answerIn, NumberIn, headText, Printable};
 use blocks::eight;
 use blocks::put_eight;
 use buffer::copy;
@@ -24,6 +25,9 @@ pub const LONGEST_LINE: usize = 41;
 
 // Where the outgoing digits of a number line stand: behind its head.
 const DIGITS_AT: usize = 8;
+
+// Where the grand loss stands: behind `total` and its space.
+const TOTAL_AT: usize = 6;
 
 const SPACE: u8 = b' ';
 
@@ -51,7 +55,7 @@ fn write_decimal(n: usize, out: &mut [u8]) -> usize
 
 // A number, and the space or the newline behind it.
 fn write_number(n: usize, behind: u8, out: &mut [u8]) -> usize
-    requires { ⌜ (n < 65536) × (6 ≤ length (now out)) ⌝ }
+    requires { ⌜ length (decimal n) < length (now out) ⌝ }
     ensures { λ r. ⌜ Writes (decimal n ++ behind ∷ []) (now (out .entry)) (now (out .exit)) r ⌝ }
 {
     let end = write_decimal(n, out);
@@ -270,4 +274,45 @@ pub fn number_line(answer: Answered, digits: &[u8], out: &mut [u8]) -> usize
         out,
     );
     DIGITS_AT + write_digits(digits, NO_DIGITS, NEWLINE, &mut out[DIGITS_AT..])
+}
+
+// LOSSES
+
+// How far a number is from zero.
+fn size(n: i64) -> usize
+    requires { ⌜ Printable n ⌝ }
+    ensures { λ r. ⌜ r ≡ natAbs n ⌝ }
+{
+    if n < 0 { (0 - n) as usize } else { n as usize }
+}
+
+// A number with its sign, which only one below zero has, and the byte behind it.
+fn write_signed(x: i64, behind: u8, out: &mut [u8]) -> usize
+    requires { ⌜ Printable x × (16 ≤ length (now out)) ⌝ }
+    ensures { λ r. ⌜ Writes (signedDecimal x ++ behind ∷ []) (now (out .entry)) (now (out .exit)) r ⌝ }
+{
+    let n = size(x);
+    if x < 0 {
+        copy(out, b"-");
+        return 1 + write_number(n, behind, &mut out[1..]);
+    }
+    write_number(n, behind, out)
+}
+
+// A district and its loss in whole cents.
+pub fn loss_line(district: usize, cents: i64, out: &mut [u8]) -> usize
+    requires { ⌜ (district < 65536) × Printable cents × (LONGEST ≤ length (now out)) ⌝ }
+    ensures { λ r. ⌜ Writes (line (decimal district ∷ signedDecimal cents ∷ [])) (now (out .entry)) (now (out .exit)) r ⌝ }
+{
+    let at = write_number(district, SPACE, out);
+    at + write_signed(cents, NEWLINE, &mut out[at..])
+}
+
+// The grand loss in whole cents.
+pub fn total_line(cents: i64, out: &mut [u8]) -> usize
+    requires { ⌜ Printable cents × (LONGEST ≤ length (now out)) ⌝ }
+    ensures { λ r. ⌜ Writes (line ((116 ∷ 111 ∷ 116 ∷ 97 ∷ 108 ∷ []) ∷ signedDecimal cents ∷ [])) (now (out .entry)) (now (out .exit)) r ⌝ }
+{
+    copy(out, b"total ");
+    TOTAL_AT + write_signed(cents, NEWLINE, &mut out[TOTAL_AT..])
 }

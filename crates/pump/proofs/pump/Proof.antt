@@ -17,4 +17,5 @@ pump-spec =
     (λ c κs. search needs)
     (λ c. search needs)
     (λ c. search needs)
-    (λ c. search needs))
+    (λ c. search needs)
+    (λ c. c .before .before .before .before .before .before .pump-by .ensures))

@@ -7,7 +7,7 @@ use Rattle.record.proofs.call_record.Tie as tie
 returns : tie.Need-returns
 returns c =
     let b = c .before .before .before .before .before .before .before .before .before .before .before .before .before in
-    call-line (b .args .plan .now) (b .args .run .opened) (b .pre .0) (b .args .kind) (b .pre .1) (b .args .body .now) (b .pre .2) (b .args .run .lines) _
+    call-line (b .args .plan .now) (b .args .run) (b .pre .0) (b .args .kind) (b .pre .1) (b .args .body .now) (b .pre .2) _
     (c .before .before .before .before .before .before .before .before .carry-out .ensures) (c .before .before .before .before .accepted-line .ensures) (c .before .opened-after .ensures) (c .line-of .ensures)
 
 pub call-record-spec : {M : Type 1} → statement M

@@ -17,4 +17,5 @@ step-known-spec =
     (λ c κs. search needs)
     (λ c. search needs)
     (λ c. search needs)
-    (λ c. search needs))
+    (λ c. search needs)
+    (λ c. c .before .before .before .before .before .before .step-by .ensures))

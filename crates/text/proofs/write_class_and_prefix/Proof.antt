@@ -2,10 +2,13 @@
 use Prim.Native.Nat.{_+_}
 use lib.ListN.{length}
 use native.Mathlib.Omega.{arith}
-use Rattle.text.proofs.Lines.{named, room-behind, text-behind, number-short}
+use Rattle.text.proofs.Lines.{decimal-short, number-short, named, room-behind, text-behind}
 use borrow.Author.Needs.{needs}
 use Rattle.text.proofs.write_class_and_prefix.Statement.{statement}
 use Rattle.text.proofs.write_class_and_prefix.Tie as tie
+
+write-number-requires : tie.Need-write-number-requires
+write-number-requires c κs = omega (arith, decimal-short (c .before .wide .result) (omega arith), c .before .before .before .before .pre .1)
 
 write-prefix-requires : tie.Need-write-prefix-requires
 write-prefix-requires c κs =
@@ -22,7 +25,7 @@ write-class-and-prefix-spec =
     tie.close
     (tie.spec
     (λ c κs. search needs)
-    (λ c κs. search needs)
+    write-number-requires
     (λ c. search needs)
     (λ c. search needs)
     (λ c. search needs)

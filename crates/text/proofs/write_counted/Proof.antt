@@ -1,9 +1,14 @@
 -- The number stands behind the word.
 use native.Mathlib.Omega.{arith}
-use Rattle.text.proofs.Lines.{over, text-behind}
+use Rattle.text.proofs.Lines.{decimal-short, over, text-behind}
 use borrow.Author.Needs.{needs}
 use Rattle.text.proofs.write_counted.Statement.{statement}
 use Rattle.text.proofs.write_counted.Tie as tie
+
+write-number-requires : tie.Need-write-number-requires
+write-number-requires c κs =
+    let g = c .before .before .before .before .before .before .before in
+    omega (arith, decimal-short (g .args .n) (g .pre .0), g .pre .1)
 
 returns : tie.Need-returns
 returns c =
@@ -18,7 +23,7 @@ write-counted-spec =
     (λ c. search needs)
     (λ c. search needs)
     (λ c. search needs)
-    (λ c κs. search needs)
+    write-number-requires
     (λ c. search needs)
     (λ c. search needs)
     returns)

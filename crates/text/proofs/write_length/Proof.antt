@@ -1,7 +1,7 @@
 -- A wildcard, or the number.
 use native.Mathlib.Omega.{arith}
 use lib.ListN.{length-set}
-use Rattle.text.proofs.Lines.{named}
+use Rattle.text.proofs.Lines.{decimal-short, named}
 use Rattle.text.proofs.LineTexts.{length-wild, length-stated}
 use borrow.Author.Needs.{needs}
 use Rattle.text.proofs.write_length.Statement.{statement}
@@ -12,6 +12,9 @@ slice-write-out-2 c = simp length-set (omega arith)
 
 returns : tie.Need-returns
 returns c = length-wild (c .before .before .args .len) (c .before .before .args .out .now) (c .if1 .taken) (omega arith)
+
+write-number-requires : tie.Need-write-number-requires
+write-number-requires c κs = omega (arith, decimal-short (c .before .wide .result) (omega arith))
 
 returns-2 : tie.Need-returns-2
 returns-2 c = named (length-stated (c .before .before .before .before .before .before .before .args .len) _ (c .before .before .before .before .wide .ensures .is) (c .before .before .before .before .before .if1 .left)) (c .before .before .write-number .ensures)
@@ -25,6 +28,6 @@ write-length-spec =
     (λ c. search needs)
     returns
     (λ c κs. search needs)
-    (λ c κs. search needs)
+    write-number-requires
     (λ c. search needs)
     returns-2)

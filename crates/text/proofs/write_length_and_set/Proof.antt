@@ -1,6 +1,6 @@
 -- The number stands behind the length.
 use native.Mathlib.Omega.{arith}
-use Rattle.text.proofs.Lines.{room-behind, text-behind}
+use Rattle.text.proofs.Lines.{decimal-short, room-behind, text-behind}
 use Rattle.text.proofs.LineTexts.{length-short}
 use borrow.Author.Needs.{needs}
 use Rattle.text.proofs.write_length_and_set.Statement.{statement}
@@ -10,7 +10,8 @@ write-number-requires : tie.Need-write-number-requires
 write-number-requires c κs =
     let g = c .before .before .before .before .before .before in
     let w = c .before .before .before .write-length .ensures in
-    (g .pre .0, room-behind w 6 (omega (arith, w .count-is, length-short (g .args .len) (search needs), g .pre .1)))
+    let r = room-behind w 6 (omega (arith, w .count-is, length-short (g .args .len) (search needs), g .pre .1)) in
+    omega (arith, r, decimal-short (g .args .set) (g .pre .0))
 
 returns : tie.Need-returns
 returns c = text-behind (c .before .before .before .before .before .before .write-length .ensures) (c .before .before .write-number .ensures)

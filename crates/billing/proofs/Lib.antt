@@ -1,0 +1,3 @@
+pub mod NumberTexts
+pub mod ChargeLines
+pub mod LossLines

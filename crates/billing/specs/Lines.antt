@@ -1,0 +1,34 @@
+-- What the lines of a call record, of a row and of the losses promise.
+use Prim.Native.Nat.{ℕ}
+use mathlib.Core.Path.{_≡_}
+use mathlib.Core.List.{List}
+use mathlib.Core.Option.{Option, none, some}
+use Rattle.meaning.specs.Sizes.{DIGIT-ROOM}
+use Rattle.meaning.specs.Basics.{if_then_else_}
+use Rattle.meaning.specs.Plan.{Plan}
+use Rattle.meaning.specs.Prices.{PriceRow, priceRefusal, rowsAfter}
+use Rattle.meaning.specs.Ledger.{Ledger}
+use Rattle.meaning.specs.Charges.{charged, ledgerAfter}
+use Rattle.meaning.specs.Records.{acceptedLine, numberLine, rowsOr}
+use Rattle.prices.specs.Layout.{pricesImage, rowsIn}
+use Rattle.text.specs.Writes.{Writes}
+use Rattle.billing.specs.Parts.{lossPart}
+use Rattle.billing.specs.declared.Reported.{Reported}
+
+-- of a call record: "Kind 16 writes the number's line"
+pub record ChargePromise (s : Option Plan) (rs : List PriceRow) (l : Ledger) (body output : List ℕ) (after : Ledger) (left : List ℕ) (written : ℕ) : Type 0 where
+  pub line : Writes (numberLine (charged s (some rs) l DIGIT-ROOM body)) output left written
+  pub ledger : after ≡ ledgerAfter s (some rs) l DIGIT-ROOM body
+
+-- of a row: "Kind 17 .. writes `ok`"
+pub record PricePromise (m body output after left : List ℕ) (written : ℕ) : Type 0 where
+  pub line : Writes (acceptedLine (priceRefusal (some (rowsIn m)) body)) output left written
+  pub memory : after ≡ pricesImage (rowsOr (rowsIn m) (rowsAfter (some (rowsIn m)) body))
+
+-- of the losses: the next line, and where more are to come how many are counted behind it
+abbrev pub nextOf : Reported → Option ℕ
+nextOf r = if r .last then none else some (r .next)
+
+pub record LossPromise (l : Ledger) (lines : ℕ) (output left : List ℕ) (r : Reported) : Type 0 where
+  pub line : Writes (lossPart l lines .text) output left (r .written)
+  pub next-is : nextOf r ≡ lossPart l lines .next
