@@ -7,31 +7,35 @@
  *
  *     cc -std=c99 -Iinclude program.c target/staticlib/libcapi.a -o program
  *
- * It allocates nothing and keeps nothing between calls: a plan is the memory that the caller lends.
+ * It allocates nothing and keeps nothing between calls: a plan, a price list and a ledger are memory that
+ * the caller lends.
  *
  * WHAT IS PROVED. Each call below is proved to end, and to give and to write exactly what document 01
- * defines, with C-12 of document 02, for any content and any length of what is lent. The promise of a
- * call stands behind `ensures` in crates/capi/src/lib.rt; docs/PROMISES.md gives the place of every
- * proof, docs/LAYOUT.md every byte of the plan memory, docs/DECISIONS.md how the two documents are read
- * where they are open. This file says the same in words. It is not proved itself.
+ * defines, with C-11 and C-12 of document 02, for any content and any length of what is lent. The
+ * promise of a call stands behind `ensures` in crates/capi/src/lib.rt; docs/PROMISES.md gives the place
+ * of every proof, docs/LAYOUT.md every byte of the plan memory, of a price list and of a ledger,
+ * docs/DECISIONS.md how the two documents are read where they are open. This file says the same in
+ * words. It is not proved itself.
  *
  * WHAT A CALLER OWES.
  * - A pointer and the length behind it are those of memory that the caller may lend: to be read, and to
  *   be written too where the pointer is not const. No other thread writes it during the call, nor
  *   reads what the call writes.
  * - The buffers lent to one call do not overlap. (Two that are both only read may.)
- * - A null pointer comes only with length 0.
- * - Nobody but these calls writes the plan memory between them. (A plan that somebody else has written
- *   is examined like any other memory, and used if it is sound; but then it need not hold what the
- *   calls put in.)
+ * - A null pointer comes only with length 0. A price list, the districts of a ledger and its whole have
+ *   one size each, and no length beside them: they are never null, and have that size.
+ * - Nobody but these calls writes the plan memory, a price list or a ledger between them. (One that
+ *   somebody else has written is examined like any other memory, and used if it is sound or in range;
+ *   but then it need not hold what the calls put in.)
  *
  * REFUSALS. A call that is refused gives the number of its refusal, every other field 0, and changes
  * nothing that was lent. Each call names its refusals in the order of its checks: the number given is
  * the first whose line holds. 0 means that nothing was refused.
  *
- * TIME. Every call but npp_open examines the whole plan before it uses it, so that its time grows with
- * the rooms of the plan; npp_replay does so for each call that it runs, and reading a listing with
- * npp_rule_at does so for each rule.
+ * TIME. Every call that gets a plan, but npp_open, examines the whole of it before it uses it, so that
+ * its time grows with the rooms of the plan; npp_replay does so for each call that it runs, and reading
+ * a listing with npp_rule_at does so for each rule. A price list and a ledger are gone through from end
+ * to end, too, by every call that gets one.
  */
 #ifndef NPP_H
 #define NPP_H
@@ -46,18 +50,21 @@
 
 #define NPP_CUT 1     /* a body is shorter than its kind says */
 #define NPP_KIND 2    /* unknown kind byte: for programs over files of records; no call here gives it */
-#define NPP_PLAN 3    /* any call but opening: the lent plan memory is not a sound plan of this build */
+#define NPP_PLAN 3    /* any call with a plan but opening: it is not a sound plan of this build */
 #define NPP_ROOM 4    /* opening: plan memory too small for the rooms asked; or a buffer too small */
 #define NPP_RANGE 5   /* a number outside its stated values, a prefix longer than a stated length,
-                         an unused byte not 0, a set number at or over the room */
+                         an unused byte not 0, a set number at or over the room; or a lent price list
+                         or ledger out of range */
 #define NPP_GROUPS 6  /* a group rule of action sets broken */
-#define NPP_TAKEN 7   /* adding a set or a filter that is there already */
+#define NPP_TAKEN 7   /* adding a set, a filter or the prefix of a price that is there already */
 #define NPP_ABSENT 8  /* a named set (but one being added), or a filter to change or remove, not there */
 #define NPP_MISFIT 9  /* a rule and its set do not fit */
-#define NPP_FULL 10   /* adding a rule when the rules held equal the room */
+#define NPP_FULL 10   /* adding a rule when the rules held equal the room, or a price behind 256 rows */
 #define NPP_IN_USE 11 /* removing a set that a rule names */
 #define NPP_SHORT 12  /* conditioning meets too few digits */
 #define NPP_LONG 13   /* outgoing digits over 32 */
+#define NPP_NO_PRICE 14    /* no row of the price list fits the digits that a call is priced on */
+#define NPP_LEDGER_FULL 15 /* the ledger has its 10,000,000 records */
 
 /* ---- Classes ---- */
 
@@ -139,9 +146,9 @@
 /*
  * ---- Bodies ----
  *
- * Two-byte numbers have the high byte first. A digit is 0 to 15, one a byte. A digit string is a length
- * byte and then its full width; "1+3" is a length byte and 3 bytes. Unused bytes are 0. Each list of a
- * set ends at its first code 0, and every byte of it behind that is unused.
+ * Numbers of two and of four bytes have the high byte first. A digit is 0 to 15, one a byte. A digit
+ * string is a length byte and then its full width; "1+3" is a length byte and 3 bytes. Unused bytes are
+ * 0. Each list of a set ends at its first code 0, and every byte of it behind that is unused.
  *
  * A body may be lent with more bytes behind it: they are not looked at.
  */
@@ -152,6 +159,8 @@
 #define NPP_RULE_BYTES 21       /* npp_add_rule, npp_change_rule */
 #define NPP_FILTER_BYTES 19     /* npp_remove_rule */
 #define NPP_NUMBER_BYTES 73     /* npp_answer */
+#define NPP_PRICE_BYTES 21      /* npp_add_price */
+#define NPP_CALL_BYTES 87       /* npp_take_call */
 
 /* Where the fields of an opening stand. */
 #define NPP_OPEN_SETS_AT 0         /* 2: room for sets, 1 to 1,024 */
@@ -184,6 +193,17 @@
 #define NPP_NUMBER_ASD_AT 51    /* 1+10: none for kind 0 */
 #define NPP_NUMBER_GRN_AT 62    /* 1+10: none for kind 0 */
 
+/* Where the fields of a price, a row of the price list, stand. */
+#define NPP_PRICE_PREFIX_AT 0 /* 1+16; no digits: fits every number */
+#define NPP_PRICE_PRICE_AT 17 /* 4: of a minute, in thousandths of a cent, 0 to 1,000,000 */
+
+/* Where the fields of a call record stand; from NPP_CALL_NUMBER_AT on it is the body of a number. */
+#define NPP_CALL_ACCOUNT_AT 0  /* 4: any number; no sum is kept by account */
+#define NPP_CALL_DISTRICT_AT 4 /* 2: 0 to 511 */
+#define NPP_CALL_SECONDS_AT 6  /* 4: 0 to 86,400 */
+#define NPP_CALL_BILLED_AT 10  /* 4: in thousandths of a cent, 0 to 1,440,000,000 */
+#define NPP_CALL_NUMBER_AT 14  /* 73: the number called, with its lookup */
+
 /* ---- Kinds of house records, for npp_replay ---- */
 
 #define NPP_RECORD_OPEN 0
@@ -196,12 +216,25 @@
 
 /* ---- Sizes ---- */
 
-/* The least bytes of a buffer for digits (npp_answer, npp_conditioned) and for a set's content. */
+/* The least bytes of a buffer for digits (npp_answer, npp_conditioned, npp_take_call) and for a set's
+   content. */
 #define NPP_DIGIT_BUFFER_BYTES 35
 #define NPP_CONTENT_BUFFER_BYTES 47
 
 /* The least bytes of the memory of a plan with these rooms: 64, 48 a set and 24 a rule. */
 #define NPP_PLAN_BYTES(sets, rules) ((size_t)64 + (size_t)48 * (size_t)(sets) + (size_t)24 * (size_t)(rules))
+
+/* The bytes of a price list, and the rows that it takes. */
+#define NPP_PRICES_BYTES 6146
+#define NPP_PRICE_ROWS 256
+
+/* The districts of a ledger, their numbers, three a district, and the records that it takes. */
+#define NPP_DISTRICTS 512
+#define NPP_LEDGER_NUMBERS 1536
+#define NPP_LEDGER_RECORDS 10000000
+
+/* The units of a cent: a unit is a sixtieth of a thousandth of a cent. */
+#define NPP_UNITS_A_CENT 60000
 
 #ifdef __cplusplus
 extern "C" {
@@ -214,7 +247,7 @@ extern "C" {
  * a word that C++ keeps for itself.
  */
 
-/* What npp_answer gives. */
+/* What npp_answer and npp_take_call give. */
 typedef struct npp_answered {
     uint8_t refusal;    /* 0, or the number of the refusal */
     uint8_t outcome;    /* 0 to 4 */
@@ -253,6 +286,21 @@ typedef struct npp_listed {
     uint8_t prefix[16]; /* the prefix's digits; the bytes behind them are 0 */
     uint16_t set;       /* the number of the set that the rule names */
 } npp_listed;
+
+/* What npp_district_loss and npp_total_loss give. */
+typedef struct npp_loss {
+    uint8_t refusal; /* 0, or the number of the refusal */
+    uint8_t held;    /* 1 if the district has records, else 0 with units and cents 0; of the total 1 */
+    int64_t units;   /* due less billed, in units; below zero where we were overcharged */
+    int64_t cents;   /* the same in whole cents, rounded once, a half away from zero */
+} npp_loss;
+
+/* The whole of a ledger, over all its districts. It is lent to npp_take_call, which changes it. */
+typedef struct npp_totals {
+    int64_t count;  /* how many records were taken */
+    int64_t due;    /* what they are due, in units */
+    int64_t billed; /* what was billed for them, in units */
+} npp_totals;
 
 /*
  * ---- The plan memory ----
@@ -493,6 +541,100 @@ npp_counted npp_rule_count(const uint8_t *plan, size_t plan_bytes);
  *   5 RANGE  the place is at or over the count of rules
  */
 npp_listed npp_rule_at(const uint8_t *plan, size_t plan_bytes, uint16_t place);
+
+/*
+ * ---- Prices, call records and losses ----
+ *
+ * C-11 of document 02: what calls were due, held against what was billed for them, district by district.
+ *
+ * A price list is NPP_PRICES_BYTES bytes, and the ledger of a month NPP_LEDGER_NUMBERS numbers for its
+ * districts and three for the whole. The empty ones are all 0, and no call makes them:
+ *
+ *     static uint8_t prices[NPP_PRICES_BYTES];
+ *     static int64_t districts[NPP_LEDGER_NUMBERS];
+ *     static npp_totals whole;
+ *
+ * District d has the count of its records at districts[3 * d], what they are due at [3 * d + 1] and what
+ * was billed at [3 * d + 2]. Each of the three is lent for the time of a call and no longer; a call that
+ * changes one changes it where it stands. Between the calls of a month the caller keeps them as they are,
+ * and may store them and lend them again; a new month begins with all numbers of the ledger 0. They belong
+ * to no plan: an opening leaves them.
+ *
+ * Money is counted in units, sixtieths of a thousandth of a cent: a call is due its seconds times the
+ * price of a minute, and what was billed, in thousandths of a cent, is taken times 60. So no sum is
+ * rounded; only `cents` of npp_loss is.
+ *
+ * A price list is out of range, and draws RANGE, if it has over 256 rows, a row has a field out of range,
+ * a prefix stands twice or out of order, or an unused byte is not 0 (docs/LAYOUT.md). A ledger is, if the
+ * whole's count is over 10,000,000, a district's count is over the whole's, or a due or billed is negative
+ * or over the count beside it times 86,400,000,000. What these calls alone have made of all 0 never is.
+ */
+
+/*
+ * Adds a row to a price list: what a minute costs to numbers that begin with the body's prefix.
+ *
+ * Gives 0 if it is accepted, else the number of its refusal. An accepted call leaves the list with the
+ * row at its place among the others, in prefix order; a refused one leaves every byte as it was. `prices`
+ * has NPP_PRICES_BYTES bytes. The body is not written.
+ *
+ * Refusals, in order:
+ *   1 CUT    body_bytes is under 21
+ *   5 RANGE  a field of the body is out of range, an unused byte is not 0, or the list is out of range
+ *   7 TAKEN  a row with this prefix is held
+ *  10 FULL   256 rows are held
+ */
+uint8_t npp_add_price(uint8_t *prices, const uint8_t *body, size_t body_bytes);
+
+/*
+ * Takes a call record: answers its number as npp_answer does, and enters what the call is due and what
+ * was billed for it into the ledger, under its district and in the whole.
+ *
+ * The call is priced by the row with the longest prefix that its digits begin with: the outgoing digits
+ * in outcome 4, the incoming ones in outcomes 0, 1 and 3. In outcome 2 it is due nothing and needs no row.
+ *
+ * Gives the answer to the number. An accepted call leaves one record more, its due and its billed in the
+ * three numbers of the district and in the whole, and in outcome 4 the outgoing digits at the front of
+ * `out`; every other number, and the bytes behind the digits, stay. A refused one leaves all of them as
+ * they were. `prices` has NPP_PRICES_BYTES bytes, `districts` NPP_LEDGER_NUMBERS numbers. Plan, prices
+ * and body are not written.
+ *
+ * Refusals, in order:
+ *   1 CUT          body_bytes is under 87
+ *   3 PLAN         the memory is not a sound plan
+ *   4 ROOM         out_bytes is under 35, whatever the outcome would be
+ *   5 RANGE        a field of the body is out of range, an unused byte of it is not 0, or the price list
+ *                  or the ledger is out of range
+ *  12 SHORT        conditioning meets too few digits
+ *  13 LONG         outcome 4 with more than 32 outgoing digits
+ *  14 NO PRICE     no row fits, in any outcome but 2
+ *  15 LEDGER FULL  10,000,000 records were taken
+ */
+npp_answered npp_take_call(const uint8_t *plan, size_t plan_bytes, const uint8_t *prices, int64_t *districts,
+                           npp_totals *whole, const uint8_t *body, size_t body_bytes, uint8_t *out,
+                           size_t out_bytes);
+
+/*
+ * The loss of a district: what its records are due, less what was billed for them.
+ *
+ * Gives the loss in units and in whole cents, `held` 1. A district without records is not refused: it
+ * gives `held` 0 and a loss of 0. Writes nothing. `districts` has NPP_LEDGER_NUMBERS numbers, and `whole`
+ * is the whole that belongs to them, by value.
+ *
+ * Refusals:
+ *   5 RANGE  the ledger is out of range, or the district is over 511
+ */
+npp_loss npp_district_loss(const int64_t *districts, npp_totals whole, uint16_t district);
+
+/*
+ * The loss over all districts, from the whole: rounded once, and not added up from rounded losses.
+ *
+ * Gives the loss in units and in whole cents, `held` 1, over an empty ledger too. Writes nothing.
+ * `districts` and `whole` are as in npp_district_loss.
+ *
+ * Refusals:
+ *   5 RANGE  the ledger is out of range
+ */
+npp_loss npp_total_loss(const int64_t *districts, npp_totals whole);
 
 #ifdef __cplusplus
 }

@@ -19,6 +19,10 @@ pub const RULE_BYTES: usize = 21;
 pub const FILTER_BYTES: usize = 19;
 /// The length of a number with its lookup.
 pub const NUMBER_BYTES: usize = 73;
+/// The length of a price.
+pub const PRICE_BYTES: usize = 21;
+/// The length of a call record.
+pub const CALL_BYTES: usize = 87;
 
 /// The kinds of house records that provision, for [`Plan::replay`](crate::Plan::replay): one byte
 /// before the body.
@@ -63,10 +67,22 @@ pub(crate) const NUMBER_LOOKUP: usize = 34;
 pub(crate) const NUMBER_ENTITY: usize = 35;
 pub(crate) const NUMBER_ASD: usize = 51;
 pub(crate) const NUMBER_GRN: usize = 62;
+pub(crate) const PRICE_PREFIX: usize = 0;
+pub(crate) const PRICE_PRICE: usize = 17;
+pub(crate) const CALL_ACCOUNT: usize = 0;
+pub(crate) const CALL_DISTRICT: usize = 4;
+pub(crate) const CALL_SECONDS: usize = 6;
+pub(crate) const CALL_BILLED: usize = 10;
+pub(crate) const CALL_NUMBER: usize = 14;
 
 /// A two-byte number, the high byte first.
 fn put_word(body: &mut [u8], at: usize, number: u16) {
     body[at..at + 2].copy_from_slice(&number.to_be_bytes());
+}
+
+/// A four-byte number, the high byte first.
+fn put_quad(body: &mut [u8], at: usize, number: u32) {
+    body[at..at + 4].copy_from_slice(&number.to_be_bytes());
 }
 
 /// A list at the front of its field, which ends before `end`.
@@ -300,4 +316,72 @@ pub fn number(class: Class, digits: &[u8], lookup: &Lookup) -> Option<[u8; NUMBE
     put_digits(&mut body, NUMBER_ASD, NUMBER_GRN, lookup.asd)?;
     put_digits(&mut body, NUMBER_GRN, NUMBER_BYTES, lookup.grn)?;
     Some(body)
+}
+
+/// A row to add to a price list.
+#[derive(Clone, Copy, Debug, PartialEq, Eq)]
+pub struct Price<'a> {
+    /// What numbers begin with, 0 to 16 digits; no digits: any number.
+    pub prefix: &'a [u8],
+    /// What a minute costs, in thousandths of a cent, 0 to 1,000,000.
+    pub price: u32,
+}
+
+impl Price<'_> {
+    /// The body that adds the row.
+    ///
+    /// ```
+    /// use npp::Price;
+    ///
+    /// let body = Price { prefix: &[0, 0, 15], price: 2_500 }.body().unwrap();
+    /// assert_eq!(body[..5], [3, 0, 0, 15, 0]);
+    /// assert_eq!(body[17..], [0, 0, 9, 196]);
+    /// // A prefix of 17 digits has no place in a body.
+    /// assert_eq!(Price { prefix: &[1; 17], price: 0 }.body(), None);
+    /// ```
+    pub fn body(&self) -> Option<[u8; PRICE_BYTES]> {
+        let mut body = [0; PRICE_BYTES];
+        put_digits(&mut body, PRICE_PREFIX, PRICE_PRICE, self.prefix)?;
+        put_quad(&mut body, PRICE_PRICE, self.price);
+        Some(body)
+    }
+}
+
+/// A call, and what was billed for it.
+#[derive(Clone, Copy, Debug, PartialEq, Eq)]
+pub struct CallRecord {
+    /// Any number; no sum is kept by account.
+    pub account: u32,
+    /// 0 to 511.
+    pub district: u16,
+    /// How long it took, at most 86,400.
+    pub seconds: u32,
+    /// In thousandths of a cent, at most 1,440,000,000.
+    pub billed: u32,
+    /// The number called, with its lookup: the body that [`number`] makes.
+    pub number: [u8; NUMBER_BYTES],
+}
+
+impl CallRecord {
+    /// The body of the record.
+    ///
+    /// ```
+    /// use npp::bodies::{number, Lookup};
+    /// use npp::{CallRecord, Class};
+    ///
+    /// let number = number(Class::NATL, &[8, 7], &Lookup::NO_RECORD).unwrap();
+    /// let record = CallRecord { account: 1001, district: 17, seconds: 60, billed: 600, number };
+    /// let body = record.body();
+    /// assert_eq!(body[..14], [0, 0, 3, 233, 0, 17, 0, 0, 0, 60, 0, 0, 2, 88]);
+    /// assert_eq!(body[14..], number);
+    /// ```
+    pub fn body(&self) -> [u8; CALL_BYTES] {
+        let mut body = [0; CALL_BYTES];
+        put_quad(&mut body, CALL_ACCOUNT, self.account);
+        put_word(&mut body, CALL_DISTRICT, self.district);
+        put_quad(&mut body, CALL_SECONDS, self.seconds);
+        put_quad(&mut body, CALL_BILLED, self.billed);
+        body[CALL_NUMBER..].copy_from_slice(&self.number);
+        body
+    }
 }

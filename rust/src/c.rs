@@ -2,12 +2,18 @@
 //! unsafe code. A slice passes as a pointer and then a length; structs come back by value.
 //!
 //! Every call here is safe for any slices: the library looks at the lengths itself, a Rust slice is
-//! memory that may be lent, and a `&mut` overlaps nothing else.
+//! memory that may be lent, and a `&mut` overlaps nothing else. A price list and a ledger are arrays by
+//! type: no length goes with them.
 //!
 //! agreement/ and bench/ have this file as a module of theirs. Which library is linked is said where a
 //! program is built, and a program that leaves out some of the calls links without their functions.
 
-/// What `npp_answer` gives.
+/// The bytes of a price list.
+pub const PRICES_BYTES: usize = 6146;
+/// The numbers of a ledger's districts: the count, due and billed of each of 512.
+pub const LEDGER_NUMBERS: usize = 1536;
+
+/// What `npp_answer` and `npp_take_call` give.
 #[repr(C)]
 #[derive(Clone, Copy, Debug, PartialEq, Eq)]
 pub struct Answered {
@@ -56,8 +62,30 @@ pub struct Listed {
     pub set: u16,
 }
 
+/// The whole of a ledger, over all its districts.
+#[repr(C)]
+#[derive(Clone, Copy, Debug, Default, PartialEq, Eq)]
+pub struct Totals {
+    /// How many records were taken.
+    pub count: i64,
+    /// What they are due, in units.
+    pub due: i64,
+    /// What was billed for them, in units.
+    pub billed: i64,
+}
+
+/// What `npp_district_loss` and `npp_total_loss` give.
+#[repr(C)]
+#[derive(Clone, Copy, Debug, Default, PartialEq, Eq)]
+pub struct Loss {
+    pub refusal: u8,
+    pub held: u8,
+    pub units: i64,
+    pub cents: i64,
+}
+
 pub mod exported {
-    use super::{Answered, Counted, Listed, Span, Written};
+    use super::{Answered, Counted, Listed, Loss, Span, Totals, Written};
 
     extern "C" {
         // A C bool, read as the byte that it is: 0 or 1 by the promise, and any other can be told.
@@ -112,6 +140,20 @@ pub mod exported {
         pub fn npp_referrers(plan: *const u8, n: usize, set: u16) -> Counted;
         pub fn npp_rule_count(plan: *const u8, n: usize) -> Counted;
         pub fn npp_rule_at(plan: *const u8, n: usize, place: u16) -> Listed;
+        pub fn npp_add_price(prices: *mut u8, body: *const u8, k: usize) -> u8;
+        pub fn npp_take_call(
+            plan: *const u8,
+            n: usize,
+            prices: *const u8,
+            districts: *mut i64,
+            whole: *mut Totals,
+            body: *const u8,
+            k: usize,
+            out: *mut u8,
+            m: usize,
+        ) -> Answered;
+        pub fn npp_district_loss(districts: *const i64, whole: Totals, district: u16) -> Loss;
+        pub fn npp_total_loss(districts: *const i64, whole: Totals) -> Loss;
     }
 }
 
@@ -220,4 +262,45 @@ pub fn rule_count(plan: &[u8]) -> Counted {
 pub fn rule_at(plan: &[u8], place: u16) -> Listed {
     // SAFETY: the pointer and the length are those of a slice.
     unsafe { exported::npp_rule_at(plan.as_ptr(), plan.len(), place) }
+}
+
+pub fn add_price(prices: &mut [u8; PRICES_BYTES], body: &[u8]) -> u8 {
+    // SAFETY: a pointer to an array of the size that the call asks for, and pointer and length of a
+    // slice that it does not overlap.
+    unsafe { exported::npp_add_price(prices.as_mut_ptr(), body.as_ptr(), body.len()) }
+}
+
+pub fn take_call(
+    plan: &[u8],
+    prices: &[u8; PRICES_BYTES],
+    districts: &mut [i64; LEDGER_NUMBERS],
+    whole: &mut Totals,
+    body: &[u8],
+    out: &mut [u8],
+) -> Answered {
+    // SAFETY: pointers to arrays of the sizes that the call asks for and to one struct, pointers and
+    // lengths of three slices; the three that are written overlap nothing.
+    unsafe {
+        exported::npp_take_call(
+            plan.as_ptr(),
+            plan.len(),
+            prices.as_ptr(),
+            districts.as_mut_ptr(),
+            whole,
+            body.as_ptr(),
+            body.len(),
+            out.as_mut_ptr(),
+            out.len(),
+        )
+    }
+}
+
+pub fn district_loss(districts: &[i64; LEDGER_NUMBERS], whole: Totals, district: u16) -> Loss {
+    // SAFETY: a pointer to an array of the size that the call asks for.
+    unsafe { exported::npp_district_loss(districts.as_ptr(), whole, district) }
+}
+
+pub fn total_loss(districts: &[i64; LEDGER_NUMBERS], whole: Totals) -> Loss {
+    // SAFETY: a pointer to an array of the size that the call asks for.
+    unsafe { exported::npp_total_loss(districts.as_ptr(), whole) }
 }

@@ -1,9 +1,9 @@
 //! Safe wrappers of the proved numbering plan processor's calls.
 //!
-//! A [`Plan`] lies in memory that it owns or borrows; each of its methods is one call of the library,
-//! and promises what include/npp.h says of it. A refused call gives a [`Refusal`] and changes nothing
-//! that was lent. The calls are proved (docs/PROMISES.md); these wrappers are ordinary Rust, and are
-//! not.
+//! A [`Plan`], a [`PriceList`] and a [`Ledger`] lie in memory that they own or borrow; each of their
+//! methods is one call of the library, and promises what include/npp.h says of it. A refused call gives a
+//! [`Refusal`] and changes nothing that was lent. The calls are proved (docs/PROMISES.md); these wrappers
+//! are ordinary Rust, and are not.
 //!
 //! Any input is safe: the library looks at every length itself. A wrapper would panic only on a result
 //! that the library is proved never to give.
@@ -35,21 +35,29 @@
 //! assert_eq!(plan.remove_set(&bodies::set_number(SetNumber(0))), Err(Refusal::InUse));
 //! # Ok::<(), Refusal>(())
 //! ```
+//!
+//! The loss by district is at [`Ledger`] and [`Plan::take_call`].
 
 #![deny(missing_docs, unsafe_code)]
 
 pub mod bodies;
 #[allow(unsafe_code)]
 mod c;
+mod ledger;
 mod plan;
+mod prices;
 mod terms;
 #[cfg(test)]
 mod tests;
 
+pub use bodies::{CallRecord, Price};
+pub use c::{Totals, LEDGER_NUMBERS, PRICES_BYTES};
+pub use ledger::{Ledger, Loss, DISTRICTS, LEDGER_RECORDS, UNITS_A_CENT};
 pub use plan::{
     plan_bytes, Answer, Listed, Plan, CONTENT_BUFFER_BYTES, DIGIT_BUFFER_BYTES, PLAN_HEADER_BYTES,
     RULE_SLOT_BYTES, SET_SLOT_BYTES,
 };
+pub use prices::{PriceList, PRICE_ROWS};
 pub use terms::{
     accepted, ca, digits_of, fa, sa, text_of, Class, Outcome, Refusal, Response, RulePlace,
     SetNumber, AS_INCOMING,

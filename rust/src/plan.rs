@@ -1,9 +1,13 @@
 //! A plan in its memory, and the calls on it.
 
-use crate::{accepted, c, text_of, Class, Outcome, Refusal, Response, RulePlace, SetNumber};
+use crate::bodies::CallRecord;
+use crate::c::{self, LEDGER_NUMBERS, PRICES_BYTES};
+use crate::{accepted, text_of, Class, Outcome, Refusal, Response, RulePlace, SetNumber};
+use crate::{Ledger, PriceList};
+use std::borrow::{Borrow, BorrowMut};
 use std::fmt;
 
-/// The least bytes of a buffer for digits: [`Plan::answer`], [`Plan::conditioned`].
+/// The least bytes of a buffer for digits: [`Plan::answer`], [`Plan::conditioned`], [`Plan::take_call`].
 pub const DIGIT_BUFFER_BYTES: usize = 35;
 /// The least bytes of a buffer for a set's content: [`Plan::set_content`].
 pub const CONTENT_BUFFER_BYTES: usize = 47;
@@ -136,15 +140,92 @@ impl<M: AsRef<[u8]>> Plan<M> {
     /// ```
     pub fn answer<'o>(&self, body: &[u8], out: &'o mut [u8]) -> Result<Answer<'o>, Refusal> {
         let given = c::answer(self.memory(), body, out);
-        accepted(given.refusal)?;
-        Ok(Answer {
-            outcome: Outcome::of(given.outcome).expect("an outcome, 0 to 4"),
-            class: Class::of(given.class).expect("a class, 0 to 5"),
-            response: Response::of(given.response),
-            actions: given.actions,
-            count: usize::from(given.count),
-            digits: &out[..given.digits],
-        })
+        Answer::of(given, out)
+    }
+
+    /// Takes a call record: answers its number as [`answer`](Plan::answer) does, and enters what the call
+    /// is due and what was billed for it into the ledger, under its district and in the whole:
+    /// `npp_take_call`. It is priced by the row with the longest prefix that fits the outgoing digits in
+    /// outcome 4, the incoming ones in outcomes 0, 1 and 3; in outcome 2 it is due nothing and needs no
+    /// row. Outcome 4 writes the outgoing digits at the front of `out`, and the bytes behind them stay.
+    ///
+    /// Refusals, in order: PLAN; ROOM, `out` is under 35 bytes; RANGE, a field of the record is out of
+    /// range, or the price list or the ledger is; SHORT; LONG; NO PRICE, no row fits; LEDGER FULL,
+    /// 10,000,000 records were taken. None changes a sum.
+    ///
+    /// ```
+    /// use npp::bodies::{self, Lookup};
+    /// use npp::{CallRecord, Class, Ledger, Loss, Price, PriceList, Refusal, DIGIT_BUFFER_BYTES};
+    /// # use npp::{bodies::Settings, Plan};
+    /// # let mut plan = Plan::new(1, 1);
+    /// # plan.open(&bodies::open(1, 1, &Settings::of_country(&[5, 5])).unwrap())?;
+    ///
+    /// // Numbers that begin with 8 cost 1 cent a minute.
+    /// let mut prices = PriceList::new();
+    /// prices.add(&Price { prefix: &[8], price: 1_000 })?;
+    /// let mut ledger = Ledger::new();
+    /// let mut out = [0; DIGIT_BUFFER_BYTES];
+    ///
+    /// // Half a minute, for which 2 cents were billed.
+    /// let number = bodies::number(Class::NATL, &[8, 7], &Lookup::NO_RECORD).unwrap();
+    /// let record = CallRecord { account: 1001, district: 17, seconds: 30, billed: 2_000, number };
+    /// let answer = plan.take_call(&prices, &mut ledger, &record, &mut out)?;
+    /// assert_eq!(answer.to_string(), "0 1 0 0 -");
+    /// let overcharged = Loss { units: 30_000 - 120_000, cents: -2 };
+    /// assert_eq!(ledger.district_loss(17), Ok(Some(overcharged)));
+    ///
+    /// // No price is for a number that begins with 9, and nothing is entered.
+    /// let number = bodies::number(Class::NATL, &[9, 7], &Lookup::NO_RECORD).unwrap();
+    /// let record = CallRecord { number, ..record };
+    /// let taken = plan.take_call(&prices, &mut ledger, &record, &mut out);
+    /// assert_eq!(taken, Err(Refusal::NoPrice));
+    /// assert_eq!(ledger.whole().count, 1);
+    /// # Ok::<(), Refusal>(())
+    /// ```
+    pub fn take_call<'o, P, D>(
+        &self,
+        prices: &PriceList<P>,
+        ledger: &mut Ledger<D>,
+        record: &CallRecord,
+        out: &'o mut [u8],
+    ) -> Result<Answer<'o>, Refusal>
+    where
+        P: Borrow<[u8; PRICES_BYTES]>,
+        D: BorrowMut<[i64; LEDGER_NUMBERS]>,
+    {
+        self.take_call_body(prices, ledger, &record.body(), out)
+    }
+
+    /// Takes the call record of a body ([`CallRecord::body`]), which may be any bytes: `npp_take_call`.
+    ///
+    /// Refusals, in order: CUT, the body is under 87 bytes; then those of [`take_call`](Plan::take_call).
+    ///
+    /// ```
+    /// use npp::{Ledger, Plan, PriceList, Refusal, DIGIT_BUFFER_BYTES};
+    ///
+    /// let (prices, mut ledger) = (PriceList::new(), Ledger::new());
+    /// let mut out = [0; DIGIT_BUFFER_BYTES];
+    /// let mut take = |body: &[u8]| {
+    ///     let plan = Plan::new(1, 1);
+    ///     plan.take_call_body(&prices, &mut ledger, body, &mut out).map(|_| ())
+    /// };
+    /// assert_eq!(take(&[0; 86]), Err(Refusal::Cut));
+    /// assert_eq!(take(&[0; 87]), Err(Refusal::Plan));
+    /// ```
+    pub fn take_call_body<'o, P, D>(
+        &self,
+        prices: &PriceList<P>,
+        ledger: &mut Ledger<D>,
+        body: &[u8],
+        out: &'o mut [u8],
+    ) -> Result<Answer<'o>, Refusal>
+    where
+        P: Borrow<[u8; PRICES_BYTES]>,
+        D: BorrowMut<[i64; LEDGER_NUMBERS]>,
+    {
+        let (districts, whole) = ledger.numbers_mut();
+        let given = c::take_call(self.memory(), prices.memory(), districts, whole, body, out);
+        Answer::of(given, out)
     }
 
     /// The conditioned number, for the lookup: `npp_conditioned`. It gives the 1 to 35 digits, written
@@ -550,7 +631,20 @@ pub struct Answer<'o> {
     pub digits: &'o [u8],
 }
 
-impl Answer<'_> {
+impl<'o> Answer<'o> {
+    /// What the library gives, with the buffer that it wrote.
+    fn of(given: c::Answered, out: &'o [u8]) -> Result<Answer<'o>, Refusal> {
+        accepted(given.refusal)?;
+        Ok(Answer {
+            outcome: Outcome::of(given.outcome).expect("an outcome, 0 to 4"),
+            class: Class::of(given.class).expect("a class, 0 to 5"),
+            response: Response::of(given.response),
+            actions: given.actions,
+            count: usize::from(given.count),
+            digits: &out[..given.digits],
+        })
+    }
+
     /// The codes of the service actions carried out ([`sa`](crate::sa)), in order.
     pub fn carried_out(&self) -> &[u8] {
         &self.actions[..self.count]

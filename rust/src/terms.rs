@@ -1,8 +1,8 @@
-//! Document 01's terms: refusals, classes, outcomes, responses, codes of actions, digits as text.
+//! The documents' terms: refusals, classes, outcomes, responses, codes of actions, digits as text.
 
 use std::fmt;
 
-/// Document 01's refusals, with its numbers.
+/// The refusals of documents 01 and 02, with their numbers.
 ///
 /// ```
 /// use npp::Refusal;
@@ -19,22 +19,22 @@ pub enum Refusal {
     Cut = 1,
     /// Unknown kind byte. It is for programs over files of records: no call here gives it.
     Kind = 2,
-    /// Any call but opening: the memory isn't a sound plan of this build.
+    /// Any call with a plan but opening: the memory isn't a sound plan of this build.
     Plan = 3,
     /// Opening: the memory is too small for the rooms asked. Else: a lent buffer is too small.
     Room = 4,
     /// A number outside its stated values, a prefix longer than a stated length, an unused byte
-    /// not 0, a set number at or over the room.
+    /// not 0, a set number at or over the room; or a lent price list or ledger out of range.
     Range = 5,
     /// A group rule of action sets is broken.
     Groups = 6,
-    /// A set or a filter to add is there already.
+    /// A set, a filter or the prefix of a price to add is there already.
     Taken = 7,
     /// A named set (but one being added), or a filter to change or remove, is not there.
     Absent = 8,
     /// A rule and its set don't fit.
     Misfit = 9,
-    /// Adding a rule when the rules held equal the room.
+    /// Adding a rule when the rules held equal the room, or a price behind 256 rows.
     Full = 10,
     /// Removing a set that a rule names.
     InUse = 11,
@@ -42,11 +42,15 @@ pub enum Refusal {
     Short = 12,
     /// Outgoing digits over 32.
     Long = 13,
+    /// No row of the price list fits the digits that a call is priced on.
+    NoPrice = 14,
+    /// The ledger has its 10,000,000 records.
+    LedgerFull = 15,
 }
 
 impl Refusal {
     /// All of them, by their numbers.
-    pub const ALL: [Refusal; 13] = [
+    pub const ALL: [Refusal; 15] = [
         Refusal::Cut,
         Refusal::Kind,
         Refusal::Plan,
@@ -60,20 +64,22 @@ impl Refusal {
         Refusal::InUse,
         Refusal::Short,
         Refusal::Long,
+        Refusal::NoPrice,
+        Refusal::LedgerFull,
     ];
 
-    /// The refusal of a number, 1 to 13; none for every other number.
+    /// The refusal of a number, 1 to 15; none for every other number.
     pub fn of(number: u8) -> Option<Refusal> {
         let all = Refusal::ALL;
         all.into_iter().find(|refusal| refusal.number() == number)
     }
 
-    /// Document 01's number.
+    /// Its number in the documents.
     pub fn number(self) -> u8 {
         self as u8
     }
 
-    /// Document 01's name.
+    /// Its name in the documents.
     pub fn name(self) -> &'static str {
         match self {
             Refusal::Cut => "CUT",
@@ -89,6 +95,8 @@ impl Refusal {
             Refusal::InUse => "IN USE",
             Refusal::Short => "SHORT",
             Refusal::Long => "LONG",
+            Refusal::NoPrice => "NO PRICE",
+            Refusal::LedgerFull => "LEDGER FULL",
         }
     }
 }
@@ -113,11 +121,11 @@ impl std::error::Error for Refusal {}
 ///
 /// # Panics
 ///
-/// On a number over 13, which the library never gives.
+/// On a number over 15, which the library never gives.
 pub fn accepted(number: u8) -> Result<(), Refusal> {
     match number {
         0 => Ok(()),
-        _ => Err(Refusal::of(number).expect("a refusal number, 1 to 13")),
+        _ => Err(Refusal::of(number).expect("a refusal number, 1 to 15")),
     }
 }
 

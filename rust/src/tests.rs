@@ -1,8 +1,11 @@
 //! The tests of the wrappers. They show that the wrappers and the header pass on what the library
 //! gives; what it gives is proved, and is held against the second implementation in agreement/.
 
+mod charging;
 mod header;
+mod lent;
 mod refused;
+mod refused_calls;
 mod results;
 
 use crate::bodies::{self, record, Lookup, Settings};

@@ -1,22 +1,29 @@
 // The calls for C and Rust, over numbers and byte slices: each promises what the call that it stands for promises.
 ghost use mathlib.Core.Path.{_≡_};
 ghost use Rattle.meaning.specs.Calls.{openPlan, addSet, replaceSet, removeSet, addRule, changeRule, removeRule};
-ghost use Rattle.meaning.specs.Answers.{countOf, ruleListed};
+ghost use Rattle.meaning.specs.Answers.{countOf, ruleListed, lossGiven};
+ghost use Rattle.meaning.specs.Ledger.{ledgerOf, lossRead, totalRead};
 ghost use Rattle.meaning.specs.Reads.{conditioned, setContent, referrerCount, ruleCount, ruleAtPlace};
 ghost use Rattle.plan.specs.State.{soundOf, stateOf};
 ghost use Rattle.changes.specs.Promise.{Provides, calls};
 ghost use Rattle.number.specs.Promises.{AnswerPromise};
+ghost use Rattle.prices.specs.Promises.{AddsPrice};
+ghost use Rattle.charging.specs.Promises.{Takes};
 ghost use Rattle.reads.specs.Promises.{SpanPromise};
 ghost use Rattle.history.specs.Replays.{Replays};
-ghost use Rattle.capi.specs.Given.{WrittenAs, CountedAs, ListedAs, GivesWritten};
+ghost use Rattle.capi.specs.Given.{WrittenAs, CountedAs, ListedAs, GivesWritten, lossAs};
 ghost use lib.ListN.{length};
 use meaning::Answered;
 use meaning::Counted;
 use meaning::ListedRule;
+use meaning::LossAnswer;
 use meaning::RulePlace;
 use meaning::SetNumber;
 use meaning::Span;
+use meaning::Totals;
 use meaning::Written;
+use meaning::sizes::LEDGER_NUMBERS;
+use meaning::sizes::PRICES_BYTES;
 
 // What a call that writes gives: the number of its refusal or 0, and how many bytes it wrote.
 #[repr(C)]
@@ -41,6 +48,16 @@ pub struct NppListed {
     pub length: u8,
     pub prefix: [u8; 16],
     pub set: u16,
+}
+
+// What a call that reads a loss gives: the number of its refusal or 0; whether there are records, 1 or 0; the loss in sixtieths of a thousandth of a cent, and in
+// whole cents.
+#[repr(C)]
+pub struct NppLoss {
+    pub refusal: u8,
+    pub held: u8,
+    pub units: i64,
+    pub cents: i64,
 }
 
 // Whether a memory is a sound plan of this build.
@@ -219,4 +236,78 @@ pub extern "C" fn npp_replay(plan: &mut [u8], calls: &[u8], numbers: &mut [u8]) 
     ensures { λ r. ⌜ Replays (now (plan .entry)) (now (calls .entry)) (now (numbers .entry)) (now (plan .exit)) (now (numbers .exit)) r ⌝ }
 {
     history::replay(plan, calls, numbers)
+}
+
+// THE LOSS BY DISTRICT
+
+// Adds a row to a price list.
+#[no_mangle]
+pub extern "C" fn npp_add_price(prices: &mut [u8; PRICES_BYTES], body: &[u8]) -> u8
+    ensures { λ r. ⌜ AddsPrice (now (prices .entry)) (now (body .entry)) (now (prices .exit)) r ⌝ }
+{
+    prices::add_price(prices, body).number()
+}
+
+// Takes a call record. The ledger is changed where it stands: this is the one function that has its totals by reference.
+#[no_mangle]
+pub extern "C" fn npp_take_call<'a>(
+    plan: &'a [u8],
+    prices: &'a [u8; PRICES_BYTES],
+    districts: &mut [i64; LEDGER_NUMBERS],
+    whole: &mut Totals,
+    body: &'a [u8],
+    out: &mut [u8],
+) -> Answered
+    ensures { λ r. ⌜ Takes (now (plan .entry)) (now (prices .entry)) (ledgerOf (now (districts .entry)) (now (whole .entry))) (now (body .entry)) (now (out .entry)) (ledgerOf (now (districts .exit)) (now (whole .exit))) (now (out .exit)) r ⌝ }
+{
+    let v = *whole;
+    let t = charging::take_call(plan, prices, districts, v, body, out);
+    *whole = charging::whole_of(t);
+    charging::answer_of(t)
+}
+
+// The fields of a loss that was read.
+fn loss_fields(answer: LossAnswer) -> NppLoss
+    ensures { λ r. ⌜ r ≡ lossAs (lossGiven answer) ⌝ }
+{
+    match answer {
+        LossAnswer::Loss(loss) => NppLoss {
+            refusal: 0,
+            held: 1,
+            units: loss.units,
+            cents: loss.cents,
+        },
+        LossAnswer::NoRecords => NppLoss {
+            refusal: 0,
+            held: 0,
+            units: 0,
+            cents: 0,
+        },
+        LossAnswer::Refused(r) => NppLoss {
+            refusal: r.number(),
+            held: 0,
+            units: 0,
+            cents: 0,
+        },
+    }
+}
+
+// The loss of a district.
+#[no_mangle]
+pub extern "C" fn npp_district_loss(
+    districts: &[i64; LEDGER_NUMBERS],
+    whole: Totals,
+    district: u16,
+) -> NppLoss
+    ensures { λ r. ⌜ r ≡ lossAs (lossRead (ledgerOf (now (districts .entry)) whole) district) ⌝ }
+{
+    loss_fields(ledger::district_loss(districts, whole, district))
+}
+
+// The loss of all districts.
+#[no_mangle]
+pub extern "C" fn npp_total_loss(districts: &[i64; LEDGER_NUMBERS], whole: Totals) -> NppLoss
+    ensures { λ r. ⌜ r ≡ lossAs (totalRead (ledgerOf (now (districts .entry)) whole)) ⌝ }
+{
+    loss_fields(ledger::total_loss(districts, whole))
 }

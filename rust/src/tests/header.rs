@@ -1,4 +1,4 @@
-//! The header and the wrappers say the same: constants, and the structs' places.
+//! The header and the wrappers say the same: constants, the structs' places, and the calls' types.
 
 use crate::bodies::*;
 use crate::{c, ca, fa, sa, Class, Outcome, Refusal, Response};
@@ -6,6 +6,7 @@ use std::collections::BTreeMap;
 use std::mem::{align_of, offset_of, size_of};
 
 const HEADER: &str = include_str!("../../../include/npp.h");
+const DECLARED: &str = include_str!("../c.rs");
 
 /// Every constant of the header by its name.
 fn header_constants() -> BTreeMap<String, usize> {
@@ -105,8 +106,16 @@ fn constants() {
         ("RULE_BYTES", RULE_BYTES),
         ("FILTER_BYTES", FILTER_BYTES),
         ("NUMBER_BYTES", NUMBER_BYTES),
+        ("PRICE_BYTES", PRICE_BYTES),
+        ("CALL_BYTES", CALL_BYTES),
         ("DIGIT_BUFFER_BYTES", crate::DIGIT_BUFFER_BYTES),
         ("CONTENT_BUFFER_BYTES", crate::CONTENT_BUFFER_BYTES),
+        ("PRICES_BYTES", crate::PRICES_BYTES),
+        ("PRICE_ROWS", crate::PRICE_ROWS),
+        ("DISTRICTS", usize::from(crate::DISTRICTS)),
+        ("LEDGER_NUMBERS", crate::LEDGER_NUMBERS),
+        ("LEDGER_RECORDS", crate::LEDGER_RECORDS as usize),
+        ("UNITS_A_CENT", crate::UNITS_A_CENT as usize),
         ("OPEN_SETS_AT", OPEN_SETS),
         ("OPEN_RULES_AT", OPEN_RULES),
         ("OPEN_COUNTRY_AT", OPEN_COUNTRY),
@@ -130,6 +139,13 @@ fn constants() {
         ("NUMBER_ENTITY_AT", NUMBER_ENTITY),
         ("NUMBER_ASD_AT", NUMBER_ASD),
         ("NUMBER_GRN_AT", NUMBER_GRN),
+        ("PRICE_PREFIX_AT", PRICE_PREFIX),
+        ("PRICE_PRICE_AT", PRICE_PRICE),
+        ("CALL_ACCOUNT_AT", CALL_ACCOUNT),
+        ("CALL_DISTRICT_AT", CALL_DISTRICT),
+        ("CALL_SECONDS_AT", CALL_SECONDS),
+        ("CALL_BILLED_AT", CALL_BILLED),
+        ("CALL_NUMBER_AT", CALL_NUMBER),
     ];
     for (name, size) in sizes {
         put(name, size);
@@ -167,4 +183,117 @@ fn structs() {
     assert_eq!(offset_of!(c::Listed, length), 3);
     assert_eq!(offset_of!(c::Listed, prefix), 4);
     assert_eq!(offset_of!(c::Listed, set), 20);
+    assert_eq!((size_of::<c::Loss>(), align_of::<c::Loss>()), (24, 8));
+    assert_eq!(offset_of!(c::Loss, refusal), 0);
+    assert_eq!(offset_of!(c::Loss, held), 1);
+    assert_eq!(offset_of!(c::Loss, units), 8);
+    assert_eq!(offset_of!(c::Loss, cents), 16);
+    assert_eq!((size_of::<c::Totals>(), align_of::<c::Totals>()), (24, 8));
+    assert_eq!(offset_of!(c::Totals, count), 0);
+    assert_eq!(offset_of!(c::Totals, due), 8);
+    assert_eq!(offset_of!(c::Totals, billed), 16);
+}
+
+/// A list is as long as its rows, and a ledger as its districts, as docs/LAYOUT.md has them.
+#[test]
+fn sizes() {
+    assert_eq!(crate::PRICES_BYTES, 2 + 24 * crate::PRICE_ROWS);
+    let districts = usize::from(crate::DISTRICTS);
+    assert_eq!(crate::LEDGER_NUMBERS, 3 * districts);
+    assert_eq!(CALL_BYTES, CALL_NUMBER + NUMBER_BYTES);
+}
+
+/// The header without comments and preprocessor lines.
+fn header_code() -> String {
+    let mut code = String::new();
+    for part in HEADER.split("/*") {
+        let behind = part.split_once("*/").map_or(part, |(_, behind)| behind);
+        code.push_str(behind);
+    }
+    let lines = code.lines().filter(|line| !line.starts_with('#'));
+    lines.collect::<Vec<&str>>().join(" ")
+}
+
+/// A C type in Rust's words.
+fn rust_type(c_type: &str) -> String {
+    let simple = match c_type.trim_start_matches("const ").trim_end_matches(" *") {
+        // Read as the byte that it is.
+        "bool" | "uint8_t" => "u8",
+        "uint16_t" => "u16",
+        "int64_t" => "i64",
+        "size_t" => "usize",
+        "npp_answered" => "Answered",
+        "npp_written" => "Written",
+        "npp_counted" => "Counted",
+        "npp_span" => "Span",
+        "npp_listed" => "Listed",
+        "npp_totals" => "Totals",
+        "npp_loss" => "Loss",
+        other => panic!("no Rust type for {other}"),
+    };
+    match (c_type.ends_with('*'), c_type.starts_with("const ")) {
+        (false, _) => simple.to_string(),
+        (true, false) => format!("*mut {simple}"),
+        (true, true) => format!("*const {simple}"),
+    }
+}
+
+/// The header's calls with the types of what they take and give, in Rust's words.
+fn header_calls() -> BTreeMap<String, String> {
+    let code = header_code();
+    let calls = code.split(';').filter_map(|statement| {
+        let (front, parameters) = statement.trim().strip_suffix(')')?.split_once('(')?;
+        let mut words = front.split_whitespace().rev();
+        let (name, given) = (words.next()?, words.next()?);
+        let types = parameters.split(',').map(|parameter| {
+            let name_at = parameter.rfind([' ', '*']).expect("a type and a name") + 1;
+            rust_type(parameter[..name_at].trim())
+        });
+        let types = types.collect::<Vec<String>>().join(", ");
+        Some((
+            name.to_string(),
+            format!("({types}) -> {}", rust_type(given)),
+        ))
+    });
+    calls.collect()
+}
+
+/// The same as `c.rs` declares them.
+fn declared_calls() -> BTreeMap<String, String> {
+    let (_, behind) = DECLARED.split_once("extern \"C\" {").expect("the calls");
+    let (calls, _) = behind.split_once("\n    }").expect("their end");
+    let calls = calls.split(';').filter_map(|statement| {
+        let (_, declaration) = statement.split_once("pub fn ")?;
+        let (name, behind) = declaration.split_once('(')?;
+        let (parameters, given) = behind.split_once(") -> ")?;
+        let types = parameters.split(',').filter_map(|one| one.split_once(": "));
+        let types = types.map(|(_, one)| one.trim()).collect::<Vec<&str>>();
+        Some((
+            name.to_string(),
+            format!("({}) -> {given}", types.join(", ")),
+        ))
+    });
+    calls.collect()
+}
+
+#[test]
+fn signatures() {
+    let calls = header_calls();
+    assert_eq!(calls, declared_calls());
+    assert_eq!(calls.len(), 20);
+    let words = |name| calls.get(name).map(String::as_str);
+    assert_eq!(
+        words("npp_add_price"),
+        Some("(*mut u8, *const u8, usize) -> u8")
+    );
+    let taken = "(*const u8, usize, *const u8, *mut i64, *mut Totals, *const u8, usize, *mut u8, usize) -> Answered";
+    assert_eq!(words("npp_take_call"), Some(taken));
+    assert_eq!(
+        words("npp_district_loss"),
+        Some("(*const i64, Totals, u16) -> Loss")
+    );
+    assert_eq!(
+        words("npp_total_loss"),
+        Some("(*const i64, Totals) -> Loss")
+    );
 }

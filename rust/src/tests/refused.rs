@@ -2,79 +2,13 @@
 //! each refusal, and what may not change after each accepted call. Each call draws each of its refusals,
 //! as the header names them, and no other.
 
+use super::lent::{Lent, Random};
 use super::*;
 use crate::{accepted, c, Refusal, RulePlace};
 use std::collections::BTreeMap;
 
 /// Where a plan memory has the byte of C-12 (docs/LAYOUT.md).
 const ACCEPTING_AT: usize = 48;
-
-/// Seeded random numbers (splitmix64).
-struct Random(u64);
-
-impl Random {
-    fn next(&mut self) -> u64 {
-        self.0 = self.0.wrapping_add(0x9e37_79b9_7f4a_7c15);
-        let mut mixed = self.0;
-        mixed = (mixed ^ (mixed >> 30)).wrapping_mul(0xbf58_476d_1ce4_e5b9);
-        mixed = (mixed ^ (mixed >> 27)).wrapping_mul(0x94d0_49bb_1331_11eb);
-        mixed ^ (mixed >> 31)
-    }
-
-    fn below(&mut self, end: usize) -> usize {
-        (self.next() % end as u64) as usize
-    }
-
-    fn byte(&mut self) -> u8 {
-        (self.next() >> 24) as u8
-    }
-
-    fn bytes(&mut self, count: usize) -> Vec<u8> {
-        (0..count).map(|_| self.byte()).collect()
-    }
-
-    fn pick<T: Clone>(&mut self, from: &[T]) -> T {
-        from[self.below(from.len())].clone()
-    }
-}
-
-/// Lent bytes between guard bytes, at any alignment.
-#[derive(Clone, PartialEq, Eq)]
-struct Lent {
-    bytes: Vec<u8>,
-    start: usize,
-    length: usize,
-}
-
-impl Lent {
-    fn new(content: &[u8], random: &mut Random) -> Lent {
-        let start = 1 + random.below(16);
-        let mut bytes = random.bytes(start);
-        bytes.extend_from_slice(content);
-        bytes.extend(random.bytes(16));
-        let length = content.len();
-        Lent {
-            bytes,
-            start,
-            length,
-        }
-    }
-
-    fn slice(&self) -> &[u8] {
-        &self.bytes[self.start..][..self.length]
-    }
-
-    fn slice_mut(&mut self) -> &mut [u8] {
-        &mut self.bytes[self.start..][..self.length]
-    }
-
-    /// The same but for the first `written` bytes of the slice.
-    fn same_behind(&self, other: &Lent, written: usize) -> bool {
-        let place = self.start + written;
-        self.bytes[..self.start] == other.bytes[..other.start]
-            && self.bytes[place..] == other.bytes[place..]
-    }
-}
 
 /// All that a call may be given.
 #[derive(Clone, PartialEq, Eq)]
@@ -317,7 +251,7 @@ fn compare(call: &Call, arguments: &Arguments) -> u8 {
             "{name} changes what it reads"
         );
         assert!(
-            did.written <= arguments.out.length,
+            did.written <= arguments.out.slice().len(),
             "{name} writes too much"
         );
         let same = after.out.same_behind(&arguments.out, did.written);
@@ -335,7 +269,7 @@ fn compare(call: &Call, arguments: &Arguments) -> u8 {
 }
 
 /// Room for 4 sets and 3 rules. Set 0 is S1, set 1 is S2, set 2 takes 8 digits, set 3 is absent.
-fn plans() -> Vec<Vec<u8>> {
+pub(super) fn plans() -> Vec<Vec<u8>> {
     let mut plan = Plan::new(4, 3);
     plan.open(&open55(4, 3)).expect("accepted");
     let fresh = plan.memory().to_vec();
@@ -354,7 +288,7 @@ fn plans() -> Vec<Vec<u8>> {
 }
 
 /// What a call may be given, most of it well made.
-fn given(call: &str) -> Vec<Vec<u8>> {
+pub(super) fn given(call: &str) -> Vec<Vec<u8>> {
     let any = |set| rule(Class::NATL, "-", 0, set);
     let no_format = |number| set(number, None, &[(ca::CC, 1)], &[], &[]);
     match call {
@@ -431,7 +365,7 @@ fn given(call: &str) -> Vec<Vec<u8>> {
 }
 
 /// The bytes as they are, or cut, lengthened, changed, replaced or empty.
-fn varied(bytes: &[u8], random: &mut Random) -> Vec<u8> {
+pub(super) fn varied(bytes: &[u8], random: &mut Random) -> Vec<u8> {
     let mut bytes = bytes.to_vec();
     let length = bytes.len();
     match random.below(12) {

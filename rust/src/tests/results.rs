@@ -315,7 +315,7 @@ fn replayed() {
 fn numbers_of_refusals() {
     for number in 0..=255 {
         let refusal = Refusal::of(number);
-        assert_eq!(refusal.is_some(), (1..=13).contains(&number));
+        assert_eq!(refusal.is_some(), (1..=15).contains(&number));
         assert!(refusal.map_or(true, |refusal| refusal.number() == number));
     }
     assert_eq!(Refusal::ALL.map(Refusal::number)[..3], [1, 2, 3]);
