@@ -1,13 +1,14 @@
-//! For cargo: the library, and all four stages.
+//! For cargo: the library, and all five stages.
 
 #[path = "../rust/archive.rs"]
 mod archive;
 
-const STAGES: [&str; 4] = [
+const STAGES: [&str; 5] = [
     "stage_plan",
     "stage_provision",
     "stage_number",
     "stage_listing",
+    "stage_loss",
 ];
 
 fn main() {

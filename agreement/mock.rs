@@ -7,6 +7,8 @@
 pub mod alike;
 #[path = "../rust/src/c.rs"]
 pub mod c;
+#[path = "mock/charging.rs"]
+pub mod charging;
 
 use npp_reference::bodies::{self, Kind};
 use npp_reference::calls::{self, Answered};

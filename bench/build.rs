@@ -7,5 +7,7 @@ fn main() {
     let calls = archive::of("capi", "NPP_LIBRARY");
     let inner = archive::of("bench", "NPP_BENCH_LIBRARY");
     println!("cargo::rustc-link-arg-bin=calls={}", calls.display());
-    println!("cargo::rustc-link-arg-bin=inner={}", inner.display());
+    for program in ["inner", "charges"] {
+        println!("cargo::rustc-link-arg-bin={program}={}", inner.display());
+    }
 }

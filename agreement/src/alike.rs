@@ -1,8 +1,10 @@
-//! So that the two can be held against each other: the reference's answers as
-//! the library gives them, and the library's provisioning calls by kind.
+//! So that the two can be held against each other: the reference's answers and
+//! totals as the library has them, and the library's provisioning calls by kind.
 
 use crate::c;
 use npp_reference::calls;
+use npp_reference::charging::LossRead;
+use npp_reference::ledger::Totals;
 use npp_reference::rules::{Checked, Filter, SetNumber};
 
 impl From<calls::Answered> for c::Answered {
@@ -57,6 +59,33 @@ impl From<Checked<(Filter, SetNumber)>> for c::Listed {
             Err(refusal) => listed.refusal = refusal.number(),
         }
         listed
+    }
+}
+
+impl From<Totals> for c::Totals {
+    fn from(Totals { count, due, billed }: Totals) -> c::Totals {
+        c::Totals { count, due, billed }
+    }
+}
+
+impl From<c::Totals> for Totals {
+    fn from(lent: c::Totals) -> Totals {
+        Totals {
+            count: lent.count,
+            due: lent.due,
+            billed: lent.billed,
+        }
+    }
+}
+
+impl From<LossRead> for c::Loss {
+    fn from(given: LossRead) -> c::Loss {
+        c::Loss {
+            refusal: given.refusal,
+            held: given.held,
+            units: given.units,
+            cents: given.cents,
+        }
     }
 }
 

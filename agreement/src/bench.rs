@@ -1,12 +1,12 @@
 //! Where two results of one call are held against each other: the count of
 //! what was compared, and the account of a difference.
 
-use crate::lent::Lent;
+use crate::lent::{Left, Lent};
 use std::fmt::Debug;
 use std::process::exit;
 
 /// One more than the highest refusal number.
-const NUMBERS: usize = 14;
+const NUMBERS: usize = 16;
 
 /// How often a call was compared, by the refusal number that it drew.
 struct Row {
@@ -178,8 +178,20 @@ impl Bench {
         reference: &R,
         lent: &[(&str, &Lent, &Lent)],
     ) {
-        let same = library == reference && lent.iter().all(|(_, one, two)| one == two);
-        if same {
+        let left: Vec<&dyn Left> = lent.iter().map(|lent| lent as &dyn Left).collect();
+        self.agree_in_all(call, lines, library, reference, &left);
+    }
+
+    /// The same, where not all that was lent are bytes.
+    pub fn agree_in_all<R: PartialEq + Debug>(
+        &mut self,
+        call: &str,
+        lines: impl Fn() -> String,
+        library: &R,
+        reference: &R,
+        left: &[&dyn Left],
+    ) {
+        if library == reference && left.iter().all(|left| left.same()) {
             return;
         }
         eprintln!("agreement: a difference in {call}");
@@ -196,21 +208,8 @@ impl Bench {
             lines()
         );
         eprintln!("\nlibrary:   {library:?}\nreference: {reference:?}");
-        for (name, one, two) in lent {
-            eprintln!("\n{name} behind the library's call:\n{}", hex(one.slice()));
-            eprintln!("{name} behind the reference's:\n{}", hex(two.slice()));
-            match one.first_difference(two) {
-                Some((place, library, reference)) => eprintln!(
-                    "the first difference is at place {place} of {}: library {library}, reference {reference}{}",
-                    one.len(),
-                    if (0..one.len() as isize).contains(&place) {
-                        ""
-                    } else {
-                        " (outside what was lent)"
-                    }
-                ),
-                None => eprintln!("the same"),
-            }
+        for left in left {
+            eprintln!("\n{}", left.account());
         }
         exit(1);
     }

@@ -3,7 +3,7 @@
 
 // Parts of the shared modules serve stages that may be left out.
 #![cfg_attr(
-    not(all(stage_plan, stage_provision, stage_number, stage_listing)),
+    not(all(stage_plan, stage_provision, stage_number, stage_listing, stage_loss)),
     allow(dead_code)
 )]
 
@@ -16,6 +16,8 @@ mod maker;
 mod random;
 #[cfg(stage_listing)]
 mod stage_listing;
+#[cfg(stage_loss)]
+mod stage_loss;
 #[cfg(stage_number)]
 mod stage_number;
 #[cfg(stage_plan)]
@@ -37,6 +39,8 @@ const STAGES: &[Stage] = &[
     ("number", stage_number::run),
     #[cfg(stage_listing)]
     ("listing", stage_listing::run),
+    #[cfg(stage_loss)]
+    ("loss", stage_loss::run),
 ];
 
 fn main() {

@@ -8,6 +8,8 @@ use npp_reference::plan::Plan;
 use npp_reference::rules::*;
 use npp_reference::{calls, layout};
 
+pub mod charges;
+
 pub struct Maker {
     pub random: Random,
     /// Few digits and few classes, so that filters and numbers meet.
@@ -413,7 +415,9 @@ impl Maker {
                 }
                 bodies::put_filter(&mut body, &filter);
             }
-            Kind::Number | Kind::List => unreachable!("a provisioning call"),
+            Kind::Number | Kind::List | Kind::Call | Kind::Price | Kind::Losses => {
+                unreachable!("a provisioning call")
+            }
         }
         body
     }

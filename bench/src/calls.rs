@@ -15,11 +15,12 @@ mod made;
 mod same;
 
 use alike::PROVISIONING;
+use c::{Totals, LEDGER_NUMBERS};
 use clock::Clock;
 use made::{rule_body, set_body, Made};
 use npp_reference::bodies::{self, Kind};
 use npp_reference::rules::*;
-use npp_reference::{calls, layout};
+use npp_reference::{calls, charging, layout, ledger};
 use std::hint::black_box;
 
 /// One provisioning call: its kind and its body.
@@ -30,6 +31,7 @@ fn main() {
     time_examiner(&clock, 64, 512);
     time_examiner(&clock, 1024, 4096);
     time_answer(&clock);
+    time_call_record(&clock);
     time_edits(&clock);
 }
 
@@ -64,6 +66,45 @@ fn time_answer(clock: &Clock) {
                 black_box(calls::answer(&memory, black_box(body), &mut their_out));
             }
         },
+    );
+}
+
+/// The public call record, which examines plan, price list and ledger. Each pass
+/// begins with an empty ledger.
+fn time_call_record(clock: &Clock) {
+    let mut made = Made::full(64, 512);
+    let memory = layout::encode(&made.plan);
+    let prices = made.prices(256).encode();
+    let bodies = made.calls(clock.scaled(512));
+    let our_pass = || {
+        let (mut districts, mut whole) = ([0; LEDGER_NUMBERS], Totals::default());
+        let mut given = Vec::with_capacity(bodies.len());
+        for body in &bodies {
+            let body = black_box(body);
+            let mut out = [0; same::ROOM];
+            let answer = c::take_call(&memory, &prices, &mut districts, &mut whole, body, &mut out);
+            given.push((answer, out));
+        }
+        (given, districts, whole)
+    };
+    let their_pass = || {
+        let (mut districts, mut whole) = ([0; LEDGER_NUMBERS], ledger::Totals::default());
+        let mut given = Vec::with_capacity(bodies.len());
+        for body in &bodies {
+            let body = black_box(body);
+            let mut out = [0; same::ROOM];
+            let answer =
+                charging::take_call(&memory, &prices, &mut districts, &mut whole, body, &mut out);
+            given.push((answer.into(), out));
+        }
+        (given, districts, Totals::from(whole))
+    };
+    assert!(our_pass() == their_pass(), "the call records differ");
+    clock.line(
+        "take 64 512 256",
+        bodies.len(),
+        || drop(black_box(our_pass())),
+        || drop(black_box(their_pass())),
     );
 }
 

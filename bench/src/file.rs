@@ -1,9 +1,11 @@
 //! Writes a file of house records: a plan of 64 sets and RULES rules, then
 //! NUMBERS numbers. For RULES `any` each class that the numbers have has one
 //! rule, which fits any number. For `same` all numbers have one class, and one
-//! rule fits them all: what is chosen is always the same.
+//! rule fits them all: what is chosen is always the same. With ROWS there are a
+//! price list of so many rows and call records in place of the numbers, and
+//! the losses behind them.
 //!
-//!     file RULES NUMBERS >FILE
+//!     file RULES NUMBERS [ROWS] >FILE
 
 #[allow(dead_code)]
 #[path = "../../agreement/src/random.rs"]
@@ -27,9 +29,21 @@ fn main() -> io::Result<()> {
         rules => Made::full(SETS, number(rules) as u16),
     };
     let mut records = made.records();
-    for _ in 0..numbers {
-        records.push(Kind::Number.byte());
-        records.extend(made.number());
+    match std::env::args().nth(3) {
+        None => {
+            for _ in 0..numbers {
+                records.push(Kind::Number.byte());
+                records.extend(made.number());
+            }
+        }
+        Some(rows) => {
+            records.extend(made::price_records(&made.prices(number(&rows))));
+            for _ in 0..numbers {
+                records.push(Kind::Call.byte());
+                records.extend(made.call());
+            }
+            records.push(Kind::Losses.byte());
+        }
     }
     // At once: a file that is written in small parts lies in small pages of the
     // system's cache, and is read more slowly.
@@ -37,7 +51,7 @@ fn main() -> io::Result<()> {
     io::stdout().flush()
 }
 
-const USAGE: &str = "usage: file RULES NUMBERS";
+const USAGE: &str = "usage: file RULES NUMBERS [ROWS]";
 
 fn argument(place: usize) -> String {
     std::env::args().nth(place).expect(USAGE)

@@ -13,10 +13,11 @@ mod random;
 
 mod clock;
 #[allow(dead_code)]
+mod known;
+#[allow(dead_code)]
 mod made;
 mod same;
 
-use c::Answered;
 use clock::Clock;
 use made::Made;
 use npp_reference::bodies;
@@ -32,58 +33,6 @@ const NUMBERS: usize = 4096;
 const CHOICES: usize = 65_536;
 /// What the inner call gives for no rule.
 const NO_PLACE: usize = 65_535;
-
-// Of the benchmark's own library, crates/bench: no other program may call them,
-// since the plan and the body are not examined.
-extern "C" {
-    fn npp_answer_known(
-        plan: *const u8,
-        n: usize,
-        body: *const u8,
-        k: usize,
-        out: *mut u8,
-        m: usize,
-    ) -> Answered;
-
-    fn npp_chosen_known(
-        plan: *const u8,
-        n: usize,
-        class: u8,
-        digits: *const u8,
-        k: usize,
-    ) -> usize;
-}
-
-/// Every plan and body here is the maker's: sound, and in range.
-fn answer_known(plan: &[u8], body: &[u8], out: &mut [u8]) -> Answered {
-    // SAFETY: pointers and lengths are those of three slices, and the one that
-    // is written overlaps no other.
-    unsafe {
-        npp_answer_known(
-            plan.as_ptr(),
-            plan.len(),
-            body.as_ptr(),
-            body.len(),
-            out.as_mut_ptr(),
-            out.len(),
-        )
-    }
-}
-
-/// The same holds of these.
-fn chosen_known(plan: &[u8], number: &Number) -> usize {
-    let digits = number.digits;
-    // SAFETY: pointers and lengths are those of two slices.
-    unsafe {
-        npp_chosen_known(
-            plan.as_ptr(),
-            plan.len(),
-            number.class.byte(),
-            digits.as_ptr(),
-            digits.len(),
-        )
-    }
-}
 
 /// The filter that the reference chooses.
 fn chosen<'a>(plan: &'a Plan, number: &Number) -> Option<&'a Filter> {
@@ -107,14 +56,14 @@ fn time_answer(clock: &Clock, rules: u16) {
     let mut made = Made::full(SETS, rules);
     let memory = layout::encode(&made.plan);
     let bodies = made.numbers(clock.scaled(NUMBERS));
-    same::demand_same(&made.plan, &memory, &bodies, answer_known);
+    same::demand_same(&made.plan, &memory, &bodies, known::answer);
     let mut out = [0; same::ROOM];
     clock.line(
         &format!("known {rules}"),
         bodies.len(),
         || {
             for body in &bodies {
-                black_box(answer_known(&memory, black_box(body), &mut out));
+                black_box(known::answer(&memory, black_box(body), &mut out));
             }
         },
         || {
@@ -136,14 +85,14 @@ fn time_choice(clock: &Clock, rules: &str, mut made: Made) {
         let expected = chosen(&made.plan, number).map_or(NO_PLACE, |filter| {
             made.plan.rules.range(..filter).count()
         });
-        assert_eq!(chosen_known(&memory, number), expected, "a choice differs");
+        assert_eq!(known::chosen(&memory, number), expected, "a choice differs");
     }
     clock.line(
         &format!("chosen {rules}"),
         numbers.len(),
         || {
             for number in &numbers {
-                black_box(chosen_known(&memory, black_box(number)));
+                black_box(known::chosen(&memory, black_box(number)));
             }
         },
         || {

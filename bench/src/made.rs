@@ -1,9 +1,12 @@
-//! Plans and numbers much like an operator's, always the same: sets of eight
-//! kinds, prefixes that begin each other, numbers that mostly meet a rule.
+//! Plans, numbers, price lists and call records much like an operator's, always
+//! the same: sets of eight kinds, prefixes that begin each other, numbers that
+//! mostly meet a rule.
 
 use crate::random::Random;
 use npp_reference::bodies::{self, Kind};
+use npp_reference::ledger::DISTRICTS;
 use npp_reference::plan::Plan;
+use npp_reference::prices::{Prices, Row};
 use npp_reference::rules::*;
 
 const SEED: u64 = 1;
@@ -182,6 +185,51 @@ impl Made {
         (0..count).map(|_| self.number()).collect()
     }
 
+    // -- call records -------------------------------------------------------
+
+    /// A price list with so many rows: the empty prefix, so that every call is
+    /// priced, and the beginnings of digits that calls are priced on.
+    pub fn prices(&mut self, rows: usize) -> Prices {
+        let mut prices = Prices::default();
+        prices.rows.insert(Vec::new(), 1_000);
+        while prices.rows.len() < rows {
+            let digits = self.priced_digits();
+            let length = self.random.between(1, LONGEST_PREFIX).min(digits.len());
+            let price = self.random.between(0, 5_000) as u32;
+            prices.rows.insert(digits[..length].to_vec(), price);
+        }
+        prices
+    }
+
+    /// What a next number is priced on.
+    fn priced_digits(&mut self) -> Vec<u8> {
+        let body = self.number();
+        match self.plan.answer(&body) {
+            Ok(answer) if !answer.digits.is_empty() => answer.digits,
+            _ => bodies::number(&body).expect("in range").digits.to_vec(),
+        }
+    }
+
+    /// The body of a next call record: up to half an hour, billed at about the
+    /// price of most calls.
+    pub fn call(&mut self) -> Vec<u8> {
+        let number = self.number();
+        let account = self.random.between(1, 100_000) as u32;
+        let district = self.random.below(DISTRICTS) as u16;
+        let seconds = self.random.between(1, 1_800) as u32;
+        let billed = seconds * 1_000 / 60 + self.random.between(0, 500) as u32;
+        let mut body = account.to_be_bytes().to_vec();
+        body.extend(district.to_be_bytes());
+        body.extend(seconds.to_be_bytes());
+        body.extend(billed.to_be_bytes());
+        body.extend(number);
+        body
+    }
+
+    pub fn calls(&mut self, count: usize) -> Vec<Vec<u8>> {
+        (0..count).map(|_| self.call()).collect()
+    }
+
     // -- records ------------------------------------------------------------
 
     /// The house records that make the plan.
@@ -285,6 +333,17 @@ fn formatting(set: &ActionSet) -> Vec<Formatting> {
     let parts = parts.iter().filter(|&&value| set.sets(value));
     actions.extend(parts.map(|&value| Formatting::Conditioned(value)));
     actions
+}
+
+/// The house records that make a price list.
+pub fn price_records(prices: &Prices) -> Vec<u8> {
+    let mut bytes = Vec::new();
+    for (prefix, &price) in &prices.rows {
+        let prefix = prefix.clone();
+        bytes.push(Kind::Price.byte());
+        bodies::put_price_row(&mut bytes, &Row { prefix, price });
+    }
+    bytes
 }
 
 // ---------------------------------------------------------------------------

@@ -1,6 +1,8 @@
-//! The bodies of house records (document 01, 'House records', and C-12): bytes
-//! to values with the RANGE check of every field, and values to bytes.
+//! The bodies of house records (document 01, 'House records', C-11 and C-12):
+//! bytes to values with the RANGE check of every field, and values to bytes.
 
+use crate::ledger::District;
+use crate::prices::{self, Row};
 use crate::rules::*;
 use std::ops::RangeInclusive;
 
@@ -18,10 +20,13 @@ pub enum Kind {
     Number = 7,
     Referrers = 8,
     List = 9,
+    Call = 16,
+    Price = 17,
+    Losses = 18,
 }
 
 impl Kind {
-    pub const ALL: [Kind; 10] = [
+    pub const ALL: [Kind; 13] = [
         Kind::Open,
         Kind::AddSet,
         Kind::ReplaceSet,
@@ -32,10 +37,13 @@ impl Kind {
         Kind::Number,
         Kind::Referrers,
         Kind::List,
+        Kind::Call,
+        Kind::Price,
+        Kind::Losses,
     ];
 
     pub fn from_byte(byte: u8) -> Option<Kind> {
-        Kind::ALL.get(usize::from(byte)).copied()
+        Kind::ALL.into_iter().find(|kind| kind.byte() == byte)
     }
 
     pub fn byte(self) -> u8 {
@@ -50,7 +58,9 @@ impl Kind {
             Kind::AddRule | Kind::ChangeRule => RULE,
             Kind::RemoveRule => FILTER,
             Kind::Number => NUMBER,
-            Kind::List => 0,
+            Kind::Call => CALL,
+            Kind::Price => PRICE,
+            Kind::List | Kind::Losses => 0,
         }
     }
 
@@ -68,7 +78,18 @@ pub const CONTENT: usize = SET - 2;
 pub const RULE: usize = 21;
 pub const FILTER: usize = 19;
 pub const NUMBER: usize = 73;
-pub const LONGEST_BODY: usize = NUMBER;
+/// A row of the price list: prefix 1+16, price 4.
+pub const PRICE: usize = 21;
+/// A call record: account 4, district 2, seconds 4, billed 4, a number.
+pub const CALL: usize = NUMBER_AT + NUMBER;
+pub const LONGEST_BODY: usize = CALL;
+/// Where the number stands in a call record.
+pub const NUMBER_AT: usize = 14;
+
+/// A day.
+pub const MOST_SECONDS: u32 = 86_400;
+/// In thousandths of a cent.
+pub const MOST_BILLED: u32 = 1_440_000_000;
 
 const COUNTRY_CODE: usize = 3;
 const ROUTING: usize = 15;
@@ -105,6 +126,17 @@ impl<'a> Fields<'a> {
 
     fn two_bytes_within(&mut self, range: RangeInclusive<u16>) -> Checked<u16> {
         let number = self.two_bytes();
+        demand(range.contains(&number), Refusal::Range)?;
+        Ok(number)
+    }
+
+    fn four_bytes(&mut self) -> u32 {
+        let bytes = self.bytes(4);
+        u32::from_be_bytes([bytes[0], bytes[1], bytes[2], bytes[3]])
+    }
+
+    fn four_bytes_within(&mut self, range: RangeInclusive<u32>) -> Checked<u32> {
+        let number = self.four_bytes();
         demand(range.contains(&number), Refusal::Range)?;
         Ok(number)
     }
@@ -266,6 +298,43 @@ pub fn number(body: &[u8]) -> Checked<Number<'_>> {
     })
 }
 
+/// The 21 bytes of a row of the price list.
+pub fn price_row(body: &[u8]) -> Checked<Row> {
+    let mut fields = Fields::of(body);
+    let prefix = fields.digits(PREFIX, 0..=PREFIX)?.to_vec();
+    let price = fields.four_bytes_within(0..=prices::HIGHEST_PRICE)?;
+    Ok(Row { prefix, price })
+}
+
+/// What a call record holds.
+#[derive(Clone, Copy, Debug, PartialEq, Eq)]
+pub struct CallRecord<'a> {
+    /// Any account is in range, and none has sums of its own.
+    pub account: u32,
+    pub district: District,
+    pub seconds: u32,
+    /// In thousandths of a cent.
+    pub billed: u32,
+    pub number: Number<'a>,
+}
+
+/// The 87 bytes of a call record.
+pub fn call(body: &[u8]) -> Checked<CallRecord<'_>> {
+    let mut fields = Fields::of(body);
+    let account = fields.four_bytes();
+    let district = District::from_number(fields.two_bytes()).ok_or(Refusal::Range)?;
+    let seconds = fields.four_bytes_within(0..=MOST_SECONDS)?;
+    let billed = fields.four_bytes_within(0..=MOST_BILLED)?;
+    let number = number(fields.bytes(NUMBER))?;
+    Ok(CallRecord {
+        account,
+        district,
+        seconds,
+        billed,
+        number,
+    })
+}
+
 // ---------------------------------------------------------------------------
 // Values to bytes
 
@@ -332,4 +401,9 @@ pub fn put_number(bytes: &mut Vec<u8>, number: &Number) {
     put_digits(bytes, ENTITY, number.lookup.entity);
     put_digits(bytes, SUBSCRIBER_DATA, number.lookup.asd);
     put_digits(bytes, SUBSCRIBER_DATA, number.lookup.grn);
+}
+
+pub fn put_price_row(bytes: &mut Vec<u8>, row: &Row) {
+    put_digits(bytes, PREFIX, &row.prefix);
+    bytes.extend(row.price.to_be_bytes());
 }

@@ -12,12 +12,12 @@ pub fn sound(memory: &[u8]) -> bool {
     layout::decode(memory).is_some()
 }
 
-fn plan_in(memory: &[u8]) -> Checked<Plan> {
+pub(crate) fn plan_in(memory: &[u8]) -> Checked<Plan> {
     layout::decode(memory).ok_or(Refusal::Plan)
 }
 
 /// A body longer than its kind says is taken; what is behind is not looked at.
-fn whole(kind: Kind, body: &[u8]) -> Checked<&[u8]> {
+pub(crate) fn whole(kind: Kind, body: &[u8]) -> Checked<&[u8]> {
     body.get(..kind.body_length()).ok_or(Refusal::Cut)
 }
 
@@ -74,7 +74,7 @@ pub fn remove_rule(memory: &mut [u8], body: &[u8]) -> Checked<()> {
     edit(Kind::RemoveRule, memory, body, Plan::remove_rule)
 }
 
-/// The provisioning call of a kind, none for kinds 7 to 9.
+/// The provisioning call of a kind, none for kinds from 7 on.
 pub fn provisioning(kind: Kind) -> Option<fn(&mut [u8], &[u8]) -> Checked<()>> {
     match kind {
         Kind::Open => Some(open),
@@ -85,6 +85,7 @@ pub fn provisioning(kind: Kind) -> Option<fn(&mut [u8], &[u8]) -> Checked<()>> {
         Kind::ChangeRule => Some(change_rule),
         Kind::RemoveRule => Some(remove_rule),
         Kind::Number | Kind::Referrers | Kind::List => None,
+        Kind::Call | Kind::Price | Kind::Losses => None,
     }
 }
 
@@ -182,7 +183,7 @@ fn try_answer(memory: &[u8], body: &[u8], out: &[u8]) -> Checked<Answer> {
 }
 
 /// The bytes behind what is written stay.
-fn write_front(out: &mut [u8], bytes: &[u8]) -> usize {
+pub(crate) fn write_front(out: &mut [u8], bytes: &[u8]) -> usize {
     out[..bytes.len()].copy_from_slice(bytes);
     bytes.len()
 }

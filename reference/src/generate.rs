@@ -9,6 +9,8 @@ use crate::records::Run;
 use crate::rules::*;
 use crate::script::{to_hex, Machine, PROVISIONING};
 
+mod charging;
+
 /// The splitmix64 generator.
 pub struct Random {
     state: u64,
@@ -90,6 +92,10 @@ struct Maker {
     memory: usize,
     /// How often each lookup kind comes up.
     lookups: [(usize, LookupKind); 4],
+    /// Whether rows, call records and losses come up among the records.
+    charges: bool,
+    /// Whether amounts are about a cent, so that sums often are at a half.
+    cents: bool,
 }
 
 impl Maker {
@@ -111,6 +117,8 @@ impl Maker {
                 (4, LookupKind::RoutingNumber),
                 (4, LookupKind::ServiceProvider),
             ],
+            charges: false,
+            cents: false,
         }
     }
 
@@ -143,6 +151,7 @@ impl Maker {
 
     // -- bodies -------------------------------------------------------------
 
+    /// The body of a record of kinds 0 to 9.
     fn body(&mut self, kind: Kind, plan: Option<&Plan>) -> Vec<u8> {
         let mut body = Vec::new();
         match kind {
@@ -160,10 +169,9 @@ impl Maker {
             }
             Kind::Number => self.put_number(&mut body, plan),
             Kind::List => {}
+            Kind::Call | Kind::Price | Kind::Losses => unreachable!("a kind of C-11"),
         }
-        if self.random.percent(self.mutated) {
-            self.mutate(&mut body);
-        }
+        self.spoil(&mut body);
         body
     }
 
@@ -620,6 +628,11 @@ impl Maker {
 
     /// The kind of a next record: what an empty plan lacks comes first.
     fn next_kind(&mut self, plan: Option<&Plan>) -> Kind {
+        if self.charges && self.random.percent(40) {
+            return self
+                .random
+                .weighted(&[(30, Kind::Call), (8, Kind::Price), (2, Kind::Losses)]);
+        }
         if self.random.percent(75) {
             match plan {
                 None => return Kind::Open,
@@ -683,20 +696,43 @@ impl File {
     }
 
     fn add(&mut self, maker: &mut Maker, kind: Kind) {
-        let body = maker.body(kind, self.shadow.plan.as_ref());
+        let plan = self.shadow.plan.as_ref();
+        let body = match kind {
+            Kind::Call => maker.call_body(plan),
+            Kind::Price => maker.price_body(&self.shadow.prices),
+            Kind::Losses => Vec::new(),
+            _ => maker.body(kind, plan),
+        };
+        self.add_body(kind, &body);
+    }
+
+    fn add_body(&mut self, kind: Kind, body: &[u8]) {
         self.bytes.push(kind.byte());
-        self.bytes.extend(&body);
+        self.bytes.extend(body);
         // A refused record is as good as an accepted one.
-        let _ = self.shadow.carry_out(kind, &body);
+        let _ = self.shadow.carry_out(kind, body);
     }
 }
 
+/// Records of all kinds.  Those of C-11 come up under odd seeds, and the
+/// losses are the last record then; in one of eight files the price list is
+/// full, or nearly so, from the first.
 fn records(seed: u64, mutated: usize, size: usize) -> Vec<u8> {
     let mut maker = Maker::new(seed, mutated);
+    maker.charges = seed % 2 == 1;
+    maker.cents = seed % 4 == 3;
     let mut file = File::new();
+    if seed % 8 == 5 {
+        for body in maker.many_rows() {
+            file.add_body(Kind::Price, &body);
+        }
+    }
     for _ in 0..size {
         let kind = maker.next_kind(file.shadow.plan.as_ref());
         file.add(&mut maker, kind);
+    }
+    if maker.charges {
+        file.add(&mut maker, Kind::Losses);
     }
     file.bytes
 }
@@ -705,7 +741,8 @@ fn records(seed: u64, mutated: usize, size: usize) -> Vec<u8> {
 fn cut_file(seed: u64, size: usize) -> Vec<u8> {
     let mut bytes = records(seed, 4, size);
     let mut random = Random::new(!seed);
-    let kind = random.pick(&Kind::ALL[..9]);
+    let with_body = Kind::ALL.into_iter().filter(|kind| kind.body_length() > 0);
+    let kind = random.pick(&with_body.collect::<Vec<Kind>>());
     bytes.push(kind.byte());
     let left = random.below(kind.body_length());
     bytes.extend((0..left).map(|_| random.byte()));
@@ -716,7 +753,7 @@ fn cut_file(seed: u64, size: usize) -> Vec<u8> {
 fn unknown_file(seed: u64, size: usize) -> Vec<u8> {
     let mut bytes = records(seed, 4, size);
     let mut random = Random::new(!seed);
-    bytes.push(random.pick(&[10, 11, 16, 128, 255]));
+    bytes.push(random.pick(&[10, 11, 15, 19, 128, 255]));
     if random.percent(50) {
         bytes.extend(records(seed ^ 1, 0, 3));
     }
@@ -767,9 +804,7 @@ fn number_file(seed: u64, size: usize) -> Vec<u8> {
         },
         &settings,
     );
-    file.bytes.push(Kind::Open.byte());
-    file.bytes.extend(&body);
-    let _ = file.shadow.carry_out(Kind::Open, &body);
+    file.add_body(Kind::Open, &body);
     for _ in 0..200 {
         file.add(&mut maker, Kind::AddSet);
     }
@@ -800,6 +835,7 @@ pub fn call_script(seed: u64, size: usize) -> String {
         0 => (300, 300, 0),
         _ => (5, 9, 80),
     };
+    maker.cents = seed % 2 == 1;
     let mut script = Script {
         maker,
         shadow: Machine::default(),
@@ -826,7 +862,7 @@ impl Script {
     }
 
     fn step(&mut self) {
-        match self.maker.random.below(100) {
+        match self.maker.random.below(125) {
             0..=59 => {
                 let plan = self.plan();
                 let kind = self.maker.next_kind(plan.as_ref());
@@ -839,7 +875,8 @@ impl Script {
             60..=87 => self.read(),
             88..=94 => self.damage(),
             95..=97 => self.replay(),
-            _ => self.new_memory(),
+            98..=99 => self.new_memory(),
+            _ => self.charge(),
         }
     }
 
@@ -1009,7 +1046,10 @@ impl Script {
         self.maker.memory = self.shadow.memory.len();
         let mut file = File {
             bytes: Vec::new(),
-            shadow: Run { plan: self.plan() },
+            shadow: Run {
+                plan: self.plan(),
+                ..Run::default()
+            },
         };
         let mut count = 0;
         if file.shadow.plan.is_none() || self.maker.random.percent(50) {

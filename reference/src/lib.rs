@@ -3,9 +3,12 @@
 
 pub mod bodies;
 pub mod calls;
+pub mod charging;
 pub mod generate;
 pub mod layout;
+pub mod ledger;
 pub mod plan;
+pub mod prices;
 pub mod process;
 pub mod reached;
 pub mod records;

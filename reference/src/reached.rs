@@ -1,5 +1,7 @@
-//! How often each refusal number and each outcome is reached.
+//! How often each refusal number and each outcome is reached, and how many
+//! lines with a loss are written.
 
+use crate::ledger::cents;
 use crate::records::{self, Reply};
 use crate::script;
 use std::fmt;
@@ -9,8 +11,12 @@ use std::io::{self, BufRead, Read};
 pub struct Reached {
     pub accepted: u64,
     /// By refusal number; place 0 is unused.
-    pub refusals: [u64; 14],
+    pub refusals: [u64; 16],
     pub outcomes: [u64; 5],
+    /// Losses of districts, and those of them that are below zero.
+    pub losses: u64,
+    pub overcharged: u64,
+    pub totals: u64,
 }
 
 impl Reached {
@@ -23,10 +29,22 @@ impl Reached {
                     self.accepted += 1;
                     self.outcomes[answer.outcome as usize] += 1;
                 }
+                Ok(Reply::Losses(ledger)) => {
+                    self.accepted += 1;
+                    self.totals += 1;
+                    for sums in ledger.districts.values() {
+                        self.count_loss(cents(sums.loss()) < 0);
+                    }
+                }
                 Ok(_) => self.accepted += 1,
             }
             Ok(())
         })
+    }
+
+    fn count_loss(&mut self, overcharged: bool) {
+        self.losses += 1;
+        self.overcharged += u64::from(overcharged);
     }
 
     /// Counts the results of a script of calls.  A replay counts for the
@@ -42,6 +60,7 @@ impl Reached {
         let words: Vec<&str> = line.split(' ').collect();
         match words[0] {
             "memory" | "fill" | "poke" | "show" | "sound" | "stretch" => self.accepted += 1,
+            "prices" | "poke_price" | "ledger" => self.accepted += 1,
             "replay" => {
                 let numbers = script::from_hex(words[2]).unwrap_or_default();
                 let done = words[1].parse().unwrap_or(0);
@@ -53,10 +72,20 @@ impl Reached {
             name => {
                 let number = words[1].parse().unwrap_or(0);
                 self.count_number(number);
-                if name == "answer" && number == 0 {
-                    self.outcomes[words[2].parse().unwrap_or(0)] += 1;
+                if number == 0 {
+                    self.count_answer(name, &words[2..]);
                 }
             }
+        }
+    }
+
+    /// The words behind the 0 of an accepted call.
+    fn count_answer(&mut self, name: &str, words: &[&str]) {
+        match name {
+            "answer" | "take_call" => self.outcomes[words[0].parse().unwrap_or(0)] += 1,
+            "district_loss" if words[0] == "1" => self.count_loss(words[2].starts_with('-')),
+            "total_loss" => self.totals += 1,
+            _ => {}
         }
     }
 
@@ -67,11 +96,16 @@ impl Reached {
         }
     }
 
-    pub fn reaches_everything(&self) -> bool {
-        self.refusals[1..]
-            .iter()
-            .chain(&self.outcomes)
-            .all(|&count| count > 0)
+    /// The refusal numbers that nothing has drawn.
+    pub fn refusals_missed(&self) -> Vec<usize> {
+        (1..self.refusals.len())
+            .filter(|&number| self.refusals[number] == 0)
+            .collect()
+    }
+
+    pub fn reaches_every_line(&self) -> bool {
+        let losses = [self.losses, self.overcharged, self.totals];
+        self.outcomes.iter().chain(&losses).all(|&count| count > 0)
     }
 }
 
@@ -84,6 +118,8 @@ impl fmt::Display for Reached {
         for (outcome, count) in self.outcomes.iter().enumerate() {
             writeln!(text, "outcome {outcome} {count}")?;
         }
-        Ok(())
+        writeln!(text, "losses {}", self.losses)?;
+        writeln!(text, "overcharged {}", self.overcharged)?;
+        writeln!(text, "totals {}", self.totals)
     }
 }

@@ -1,8 +1,11 @@
-//! The program over a file of house records (document 01, 'House records'):
-//! records in, lines out, one record at a time.
+//! The program over a file of house records (document 01, 'House records',
+//! and C-11): records in, lines out, one record at a time.
 
 use crate::bodies::{self, Kind};
+use crate::charging;
+use crate::ledger::{cents, Ledger};
 use crate::plan::Plan;
+use crate::prices::Prices;
 use crate::process::Answer;
 use crate::rules::*;
 use std::io::{self, Read, Write};
@@ -17,23 +20,40 @@ pub enum Reply<'a> {
     Answered(Answer),
     Referrers(usize),
     Listing(&'a Plan),
+    Losses(&'a Ledger),
 }
 
-/// The plan in force, if an opening was accepted.
 #[derive(Default)]
 pub struct Run {
+    /// The plan in force, if an opening was accepted.
     pub plan: Option<Plan>,
+    /// An opening leaves rows and ledger.
+    pub prices: Prices,
+    pub ledger: Ledger,
 }
 
 impl Run {
     /// Carries out a record whose body is whole.
     pub fn carry_out(&mut self, kind: Kind, body: &[u8]) -> Checked<Reply<'_>> {
-        if kind == Kind::Open {
-            self.plan = Some(open(body)?);
-            return Ok(Reply::Provisioned);
+        match kind {
+            Kind::Open => {
+                self.plan = Some(open(body)?);
+                Ok(Reply::Provisioned)
+            }
+            Kind::Price => self.prices.add(body).map(|()| Reply::Provisioned),
+            Kind::Losses => Ok(Reply::Losses(&self.ledger)),
+            _ => self.with_the_plan(kind, body),
         }
+    }
+
+    /// The kinds that draw PLAN before an opening is accepted.
+    fn with_the_plan(&mut self, kind: Kind, body: &[u8]) -> Checked<Reply<'_>> {
         let plan = self.plan.as_mut().ok_or(Refusal::Plan)?;
         match kind {
+            Kind::Call => {
+                let answer = charging::take(plan, &self.prices, &mut self.ledger, body)?;
+                return Ok(Reply::Answered(answer));
+            }
             Kind::Number => return plan.answer(body).map(Reply::Answered),
             Kind::Referrers => {
                 return plan
@@ -47,7 +67,7 @@ impl Run {
             Kind::AddRule => plan.add_rule(body)?,
             Kind::ChangeRule => plan.change_rule(body)?,
             Kind::RemoveRule => plan.remove_rule(body)?,
-            Kind::Open => unreachable!("opening needs no plan"),
+            Kind::Open | Kind::Price | Kind::Losses => unreachable!("these need no plan"),
         }
         Ok(Reply::Provisioned)
     }
@@ -115,6 +135,7 @@ fn put_result(lines: &mut Vec<u8>, result: Checked<Reply>) {
         Ok(Reply::Answered(answer)) => put_answer(lines, &answer),
         Ok(Reply::Referrers(count)) => put_words(lines, b"refs ", count),
         Ok(Reply::Listing(plan)) => put_listing(lines, plan),
+        Ok(Reply::Losses(ledger)) => put_losses(lines, ledger),
         Err(refusal) => put_words(lines, b"no ", usize::from(refusal.number())),
     }
 }
@@ -151,6 +172,23 @@ fn put_listing(lines: &mut Vec<u8>, plan: &Plan) {
         put_words(lines, b" ", usize::from(set.0));
     }
     put_words(lines, b"end ", plan.rule_count());
+}
+
+/// A line for each district with records, rising, then the total.  Each is
+/// rounded from its own sum.
+fn put_losses(lines: &mut Vec<u8>, ledger: &Ledger) {
+    for (district, sums) in &ledger.districts {
+        put_decimal(lines, usize::from(district.number()));
+        lines.push(b' ');
+        put_signed_line(lines, cents(sums.loss()));
+    }
+    lines.extend(b"total ");
+    put_signed_line(lines, cents(ledger.whole.loss()));
+}
+
+fn put_signed_line(lines: &mut Vec<u8>, number: i128) {
+    lines.extend(number.to_string().bytes());
+    lines.push(b'\n');
 }
 
 fn put_digits(lines: &mut Vec<u8>, digits: &[u8], none: u8) {

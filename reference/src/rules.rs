@@ -2,7 +2,7 @@
 //! group rules and the fit of a rule and a set.  Nothing here knows how
 //! anything lies in bytes.
 
-/// Refusal numbers (document 01, 'Refusal numbers').
+/// Refusal numbers (document 01, 'Refusal numbers', and C-11 of document 02).
 #[derive(Clone, Copy, Debug, PartialEq, Eq)]
 #[repr(u8)]
 pub enum Refusal {
@@ -19,6 +19,8 @@ pub enum Refusal {
     InUse = 11,
     Short = 12,
     Long = 13,
+    NoPrice = 14,
+    LedgerFull = 15,
 }
 
 impl Refusal {

@@ -3,15 +3,32 @@
 
 use crate::bodies::Kind;
 use crate::calls;
+use crate::charging::{self, LossRead};
+use crate::ledger::{self, Totals};
+use crate::prices;
 use crate::rules::*;
 use std::fmt::Write;
 use std::io::{self, BufRead};
 use std::str::FromStr;
 
-/// The memory that the calls work on.
-#[derive(Default)]
+/// What the calls work on: plan memory, price list and ledger.
 pub struct Machine {
     pub memory: Vec<u8>,
+    pub prices: [u8; prices::MEMORY],
+    pub districts: [i64; ledger::MEMORY],
+    pub whole: Totals,
+}
+
+/// No memory, the empty list and the empty ledger.
+impl Default for Machine {
+    fn default() -> Machine {
+        Machine {
+            memory: Vec::new(),
+            prices: [0; prices::MEMORY],
+            districts: [0; ledger::MEMORY],
+            whole: Totals::default(),
+        }
+    }
 }
 
 /// The name of each provisioning call.
@@ -45,6 +62,28 @@ impl<'a> Words<'a> {
 
     fn bytes(&mut self) -> Result<Vec<u8>, String> {
         from_hex(self.next()?)
+    }
+
+    /// The bytes of a price list.
+    fn list(&mut self) -> Result<[u8; prices::MEMORY], String> {
+        let bytes = self.bytes()?;
+        let mut list = [0; prices::MEMORY];
+        let given = list.get_mut(..bytes.len()).ok_or("a list too long")?;
+        given.copy_from_slice(&bytes);
+        Ok(list)
+    }
+
+    /// `N` numbers of a ledger.
+    fn numbers<const N: usize>(&mut self) -> Result<[i64; N], String> {
+        let bytes = self.bytes()?;
+        let mut numbers = [0; N];
+        if bytes.len() % 8 != 0 || bytes.len() > 8 * N {
+            return Err(format!("not up to {N} numbers of eight bytes"));
+        }
+        for (number, eight) in numbers.iter_mut().zip(bytes.chunks(8)) {
+            *number = i64::from_be_bytes(eight.try_into().expect("eight bytes"));
+        }
+        Ok(numbers)
     }
 
     fn end(mut self) -> Result<(), String> {
@@ -87,16 +126,7 @@ impl Machine {
                 self.memory = vec![value; length];
                 Ok(length.to_string())
             }
-            "poke" => {
-                let (place, value): (usize, u8) = (words.number()?, words.number()?);
-                words.end()?;
-                let byte = self
-                    .memory
-                    .get_mut(place)
-                    .ok_or("no such place in the memory")?;
-                *byte = value;
-                Ok(format!("{place} {value}"))
-            }
+            "poke" => poke(&mut self.memory, words),
             "show" => words.end().map(|()| to_hex(&self.memory)),
             "sound" => words
                 .end()
@@ -111,8 +141,54 @@ impl Machine {
                     to_hex(&self.memory)
                 ))
             }
+            _ => self.charging_call(name, words),
+        }
+    }
+
+    /// The words of C-11.
+    fn charging_call(&mut self, name: &str, mut words: Words) -> Result<String, String> {
+        match name {
+            "prices" => {
+                let list = words.list()?;
+                words.end()?;
+                self.prices = list;
+                Ok(list_hex(&self.prices))
+            }
+            "poke_price" => poke(&mut self.prices, words),
+            "ledger" => {
+                let ([count, due, billed], districts) = (words.numbers()?, words.numbers()?);
+                words.end()?;
+                self.whole = Totals { count, due, billed };
+                self.districts = districts;
+                Ok(self.ledger_hex())
+            }
+            "add_price" => {
+                let body = words.bytes()?;
+                words.end()?;
+                let number = calls::refusal_number(charging::add_price(&mut self.prices, &body));
+                Ok(format!("{number} {}", list_hex(&self.prices)))
+            }
+            "take_call" => {
+                let (body, mut out) = (words.bytes()?, words.bytes()?);
+                words.end()?;
+                let answered = self.take_call(&body, &mut out);
+                let ledger = self.ledger_hex();
+                Ok(format!("{} {ledger}", answer_line(&answered, &out)))
+            }
             _ => self.read_call(name, words),
         }
+    }
+
+    fn take_call(&mut self, body: &[u8], out: &mut [u8]) -> calls::Answered {
+        let (districts, whole) = (&mut self.districts, &mut self.whole);
+        charging::take_call(&self.memory, &self.prices, districts, whole, body, out)
+    }
+
+    /// The whole's numbers, then the districts'.
+    fn ledger_hex(&self) -> String {
+        let Totals { count, due, billed } = self.whole;
+        let whole = numbers_hex(&[count, due, billed]);
+        format!("{whole} {}", numbers_hex(&self.districts))
     }
 
     fn provision(&mut self, kind: Kind, body: &[u8]) -> String {
@@ -121,7 +197,7 @@ impl Machine {
         format!("{number} {}", to_hex(&self.memory))
     }
 
-    /// The calls that only read the memory.
+    /// The calls that only read what is lent.
     fn read_call(&self, name: &str, mut words: Words) -> Result<String, String> {
         let memory = &self.memory;
         match name {
@@ -163,9 +239,28 @@ impl Machine {
                 words.end()?;
                 Ok(rule_line(calls::rule_at(memory, place)))
             }
-            _ => Err(format!("no such call: {name}")),
+            _ => self.loss_call(name, words),
         }
     }
+
+    fn loss_call(&self, name: &str, mut words: Words) -> Result<String, String> {
+        let (districts, whole) = (&self.districts, self.whole);
+        let loss = match name {
+            "district_loss" => charging::district_loss(districts, whole, words.number()?),
+            "total_loss" => charging::total_loss(districts, whole),
+            _ => return Err(format!("no such call: {name}")),
+        };
+        words.end().map(|()| loss_line(loss))
+    }
+}
+
+/// Changes one byte of what is lent.
+fn poke(lent: &mut [u8], mut words: Words) -> Result<String, String> {
+    let (place, value): (usize, u8) = (words.number()?, words.number()?);
+    words.end()?;
+    let byte = lent.get_mut(place).ok_or("no such place in the memory")?;
+    *byte = value;
+    Ok(format!("{place} {value}"))
 }
 
 fn answer_line(answered: &calls::Answered, out: &[u8]) -> String {
@@ -198,6 +293,31 @@ fn rule_line(rule: Checked<(Filter, SetNumber)>) -> String {
         }
         Err(refusal) => format!("{} 0 - 0 0", refusal.number()),
     }
+}
+
+fn loss_line(loss: LossRead) -> String {
+    let LossRead {
+        refusal,
+        held,
+        units,
+        cents,
+    } = loss;
+    format!("{refusal} {held} {units} {cents}")
+}
+
+/// A price list up to its last byte that is not 0.
+pub fn list_hex(list: &[u8]) -> String {
+    let end = list.iter().rposition(|&byte| byte != 0);
+    to_hex(&list[..end.map_or(0, |last| last + 1)])
+}
+
+/// Eight bytes a number, up to the last number that is not 0.
+pub fn numbers_hex(numbers: &[i64]) -> String {
+    let end = numbers.iter().rposition(|&number| number != 0);
+    let bytes = numbers[..end.map_or(0, |last| last + 1)]
+        .iter()
+        .flat_map(|number| number.to_be_bytes());
+    to_hex(&bytes.collect::<Vec<u8>>())
 }
 
 /// Two small hex digits a byte; `-` for no bytes.

@@ -1,6 +1,7 @@
 //! The tests of the second implementation.
 
 mod accepting;
+mod charging;
 mod examples;
 mod generated;
 mod marked;

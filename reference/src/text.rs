@@ -36,6 +36,9 @@ pub fn record(line: &str) -> Written<Vec<u8>> {
         Some("change-rule") => rule(Kind::ChangeRule, &mut words),
         Some("remove-rule") => remove_rule(&mut words),
         Some("number") => number(&mut words),
+        Some("call") => call(&mut words),
+        Some("price") => price(&mut words),
+        Some("losses") => Ok(vec![Kind::Losses.byte()]),
         Some("refs") => set_number(Kind::Referrers, &mut words),
         Some("list") => Ok(vec![Kind::List.byte()]),
         Some("bytes") => from_hex(words.next()?),
@@ -98,6 +101,14 @@ impl<'a> Words<'a> {
     fn two_bytes(&mut self) -> Written<[u8; 2]> {
         let word = self.next()?;
         let number: u16 = word.parse().map_err(|_| format!("not two bytes: {word}"))?;
+        Ok(number.to_be_bytes())
+    }
+
+    fn four_bytes(&mut self) -> Written<[u8; 4]> {
+        let word = self.next()?;
+        let number: u32 = word
+            .parse()
+            .map_err(|_| format!("not four bytes: {word}"))?;
         Ok(number.to_be_bytes())
     }
 
@@ -241,7 +252,30 @@ fn remove_rule(words: &mut Words) -> Written<Vec<u8>> {
 }
 
 fn number(words: &mut Words) -> Written<Vec<u8>> {
-    let mut bytes = vec![Kind::Number.byte(), words.name(&CLASSES)?];
+    let mut bytes = vec![Kind::Number.byte()];
+    bytes.extend(number_body(words)?);
+    Ok(bytes)
+}
+
+fn call(words: &mut Words) -> Written<Vec<u8>> {
+    let mut bytes = vec![Kind::Call.byte()];
+    bytes.extend(words.four_bytes()?);
+    bytes.extend(words.two_bytes()?);
+    bytes.extend(words.four_bytes()?);
+    bytes.extend(words.four_bytes()?);
+    bytes.extend(number_body(words)?);
+    Ok(bytes)
+}
+
+fn price(words: &mut Words) -> Written<Vec<u8>> {
+    let mut bytes = vec![Kind::Price.byte()];
+    bytes.extend(words.digits(16, "*")?);
+    bytes.extend(words.four_bytes()?);
+    Ok(bytes)
+}
+
+fn number_body(words: &mut Words) -> Written<Vec<u8>> {
+    let mut bytes = vec![words.name(&CLASSES)?];
     bytes.extend(words.digits(32, "-")?);
     bytes.push(words.name(&LOOKUPS)?);
     bytes.extend(words.digits(15, "-")?);

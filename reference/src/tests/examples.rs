@@ -23,7 +23,7 @@ fn examples() -> Vec<(String, String)> {
 #[test]
 fn every_example_file_gives_what_its_paper_says() {
     let examples = examples();
-    assert_eq!(examples.len(), 34);
+    assert_eq!(examples.len(), 35);
     for (name, content) in examples {
         assert!(content.starts_with("# "), "{name} says where it is from");
         let bytes = text::records(&content).expect(&name);

@@ -4,14 +4,20 @@
 use super::support::*;
 use crate::bodies::{self, Kind};
 use crate::calls;
+use crate::charging;
 use crate::generate;
 use crate::layout;
+use crate::ledger::{self, Ledger, Totals};
 use crate::plan::Plan;
-use crate::process::Outcome;
+use crate::prices::{self, Prices};
+use crate::process::{Answer, Outcome};
 use crate::reached::Reached;
+use crate::records::{Reply, Run};
 use crate::rules::*;
-use crate::script::from_hex;
+use crate::script::{from_hex, Machine};
+use std::collections::{BTreeMap, BTreeSet};
 
+/// A file that draws LEDGER FULL has more than 10,000,000 records.
 #[test]
 fn record_files_reach_everything() {
     let mut reached = Reached::default();
@@ -21,7 +27,8 @@ fn record_files_reach_everything() {
             reached.count_records(&mut &file[..]).expect("no fault");
         }
     }
-    assert!(reached.reaches_everything(), "{reached}");
+    assert_eq!(reached.refusals_missed(), [15], "{reached}");
+    assert!(reached.reaches_every_line(), "{reached}");
 }
 
 #[test]
@@ -34,9 +41,8 @@ fn call_scripts_reach_everything_but_kind() {
             .expect("a script without fault");
     }
     // KIND is the program's alone.
-    assert_eq!(reached.refusals[2], 0);
-    reached.refusals[2] = 1;
-    assert!(reached.reaches_everything(), "{reached}");
+    assert_eq!(reached.refusals_missed(), [2], "{reached}");
+    assert!(reached.reaches_every_line(), "{reached}");
 }
 
 #[test]
@@ -57,7 +63,7 @@ fn the_same_seed_gives_the_same_file() {
 #[test]
 fn both_values_of_accepting_and_others() {
     let [mut in_files, mut in_scripts, mut poked] = [[0; 256]; 3];
-    for seed in 0..200 {
+    for seed in 0..300 {
         let file = generate::record_file(seed, "clean", 100).expect("a kind");
         for (_, body) in split(&file).iter().filter(|(kind, _)| *kind == Kind::Open) {
             in_files[usize::from(body[40])] += 1;
@@ -109,31 +115,80 @@ fn split(file: &[u8]) -> Vec<(Kind, Vec<u8>)> {
     records
 }
 
-/// The line of a record by the library calls over memory.  The memory has the
-/// size of the program's largest plan; no opening here asks for more.
-fn line_by_calls(memory: &mut [u8], kind: Kind, body: &[u8]) -> String {
-    match kind {
-        Kind::Number => {
-            let mut out = [0; 35];
-            let answered = calls::answer(memory, body, &mut out);
-            match answered.refusal {
-                0 => number_line(&answered, &out),
-                number => format!("no {number}\n"),
+/// What a run of the program keeps, as memory.  The plan's has the size of the
+/// program's largest plan; no opening here asks for more.
+struct Lent {
+    plan: Vec<u8>,
+    prices: [u8; prices::MEMORY],
+    districts: [i64; ledger::MEMORY],
+    whole: Totals,
+}
+
+impl Lent {
+    fn new() -> Lent {
+        let rooms = Rooms {
+            sets: 64,
+            rules: 512,
+        };
+        Lent {
+            plan: vec![FILLING; layout::size(rooms)],
+            prices: [0; prices::MEMORY],
+            districts: [0; ledger::MEMORY],
+            whole: Totals::default(),
+        }
+    }
+
+    /// The lines of a record by the library calls over memory.
+    fn lines(&mut self, kind: Kind, body: &[u8]) -> String {
+        let mut out = [0; 35];
+        match kind {
+            Kind::Number => number_line(&calls::answer(&self.plan, body, &mut out), &out),
+            Kind::Call => number_line(&self.take_call(body, &mut out), &out),
+            Kind::Referrers => match calls::referrers(&self.plan, bodies::set_number(body)) {
+                Ok(count) => format!("refs {count}\n"),
+                Err(refusal) => format!("no {}\n", refusal.number()),
+            },
+            Kind::List => listing_by_calls(&self.plan),
+            Kind::Losses => self.losses(),
+            Kind::Price => ok_line(charging::add_price(&mut self.prices, body)),
+            _ => {
+                let call = calls::provisioning(kind).expect("a provisioning kind");
+                ok_line(call(&mut self.plan, body))
             }
         }
-        Kind::Referrers => match calls::referrers(memory, bodies::set_number(body)) {
-            Ok(count) => format!("refs {count}\n"),
-            Err(refusal) => format!("no {}\n", refusal.number()),
-        },
-        Kind::List => listing_by_calls(memory),
-        _ => match calls::provisioning(kind).expect("a provisioning kind")(memory, body) {
-            Ok(()) => "ok\n".to_string(),
-            Err(refusal) => format!("no {}\n", refusal.number()),
-        },
+    }
+
+    fn take_call(&mut self, body: &[u8], out: &mut [u8]) -> calls::Answered {
+        let (districts, whole) = (&mut self.districts, &mut self.whole);
+        charging::take_call(&self.plan, &self.prices, districts, whole, body, out)
+    }
+
+    fn losses(&self) -> String {
+        let mut lines = String::new();
+        for district in 0..512 {
+            let loss = charging::district_loss(&self.districts, self.whole, district);
+            assert_eq!(loss.refusal, 0);
+            if loss.held == 1 {
+                lines += &format!("{district} {}\n", loss.cents);
+            }
+        }
+        let total = charging::total_loss(&self.districts, self.whole);
+        assert_eq!((total.refusal, total.held), (0, 1));
+        lines + &format!("total {}\n", total.cents)
+    }
+}
+
+fn ok_line(result: Checked<()>) -> String {
+    match result {
+        Ok(()) => "ok\n".to_string(),
+        Err(refusal) => format!("no {}\n", refusal.number()),
     }
 }
 
 fn number_line(answered: &calls::Answered, out: &[u8]) -> String {
+    if answered.refusal != 0 {
+        return format!("no {}\n", answered.refusal);
+    }
     let digits = match answered.written {
         0 => "-".to_string(),
         count => in_text(&out[..count]),
@@ -173,13 +228,8 @@ fn listing_by_calls(memory: &[u8]) -> String {
 fn maps_and_memory_agree() {
     for (seed, mutated) in (0..12).flat_map(|seed| [(seed, "clean"), (seed, "mutated")]) {
         let file = generate::record_file(seed, mutated, 150).expect("a kind");
-        let mut memory = vec![
-            FILLING;
-            layout::size(Rooms {
-                sets: 64,
-                rules: 512
-            })
-        ];
+        let mut lent = Lent::new();
+        let mut opened = false;
         let mut by_calls = String::new();
         for (kind, body) in split(&file) {
             // The program's limits are its own: 65 sets may find room here.
@@ -189,12 +239,14 @@ fn maps_and_memory_agree() {
                 None
             };
             let beyond = rooms.is_some_and(|(rooms, _)| rooms.sets > 64 || rooms.rules > 512);
-            by_calls += &match beyond {
+            let lines = match beyond {
                 true => "no 4\n".to_string(),
-                false => line_by_calls(&mut memory, kind, &body),
+                false => lent.lines(kind, &body),
             };
-            let sound = calls::sound(&memory);
-            assert!(sound || by_calls.lines().all(|line| line.starts_with("no ")));
+            // From the first accepted opening on the plan is sound.
+            opened |= kind == Kind::Open && lines == "ok\n";
+            assert_eq!(calls::sound(&lent.plan), opened);
+            by_calls += &lines;
         }
         assert_eq!(by_calls, lines(&file), "seed {seed}");
     }
@@ -266,7 +318,7 @@ fn check_number(plan: &Plan, class: Class, digits: &[u8]) {
 #[test]
 fn demand_3_on_generated_lists() {
     for seed in 100..130 {
-        let mut run = crate::records::Run::default();
+        let mut run = Run::default();
         let file = generate::record_file(seed, "mutated", 200).expect("a kind");
         for (kind, body) in split(&file) {
             // The refusal itself is tested elsewhere.
@@ -287,17 +339,22 @@ fn demand_3_on_generated_lists() {
 #[test]
 fn outcomes_keep_their_shape() {
     for seed in 200..220 {
-        let mut run = crate::records::Run::default();
+        let mut run = Run::default();
         let file = generate::record_file(seed, "clean", 200).expect("a kind");
         for (kind, body) in split(&file) {
-            let Ok(crate::records::Reply::Answered(answer)) = run.carry_out(kind, &body) else {
+            let Ok(Reply::Answered(answer)) = run.carry_out(kind, &body) else {
                 continue;
             };
             let formatted = answer.outcome == Outcome::Formatted;
             assert!(formatted || answer.digits.is_empty());
             assert!(answer.digits.len() <= 32);
             let keeps_class = !formatted && answer.outcome != Outcome::Escaped;
-            assert!(!keeps_class || answer.class.byte() == body[0]);
+            let at = if kind == Kind::Call {
+                bodies::NUMBER_AT
+            } else {
+                0
+            };
+            assert!(!keeps_class || answer.class.byte() == body[at]);
             let inprtg = answer.carried_out.first() == Some(&Service::Inprtg);
             assert_eq!(answer.response.is_some(), inprtg);
         }
@@ -310,7 +367,7 @@ fn outcomes_keep_their_shape() {
 fn accepting_decides_kind_1_alone() {
     let (mut numbers, mut decided) = (0, 0);
     for seed in 300..330 {
-        let mut run = crate::records::Run::default();
+        let mut run = Run::default();
         let file = generate::record_file(seed, "clean", 200).expect("a kind");
         for (kind, body) in split(&file) {
             let _ = run.carry_out(kind, &body);
@@ -336,4 +393,222 @@ fn accepting_decides_kind_1_alone() {
         }
     }
     assert!(decided * 20 > numbers, "{decided} of {numbers}");
+}
+
+// ---------------------------------------------------------------------------
+// C-11
+
+/// How often records of one kind drew each refusal, by its number (0:
+/// accepted), and each outcome.
+fn drawn(kind: Kind) -> ([usize; 16], [usize; 5]) {
+    let (mut numbers, mut outcomes) = ([0; 16], [0; 5]);
+    for seed in 0..60 {
+        let file = generate::record_file(seed, "clean", 200).expect("a kind");
+        let mut run = Run::default();
+        for (found, body) in split(&file) {
+            let result = run.carry_out(found, &body);
+            if found != kind {
+                continue;
+            }
+            if let Ok(Reply::Answered(answer)) = &result {
+                outcomes[answer.outcome as usize] += 1;
+            }
+            numbers[usize::from(calls::refusal_number(result))] += 1;
+        }
+    }
+    (numbers, outcomes)
+}
+
+/// The refusals that at least ten records drew, and whether no others did.
+fn drawn_often(numbers: [usize; 16]) -> Vec<usize> {
+    let any = (1..16).filter(|&number| numbers[number] > 0);
+    let often = any.clone().filter(|&number| numbers[number] >= 10);
+    assert!(any.eq(often.clone()), "{numbers:?}");
+    often.collect()
+}
+
+#[test]
+fn call_records_and_rows_draw_what_they_can() {
+    let (numbers, outcomes) = drawn(Kind::Call);
+    assert_eq!(drawn_often(numbers), [3, 5, 12, 13, 14]);
+    assert!(outcomes.iter().all(|&count| count >= 10), "{outcomes:?}");
+    // More than a third is accepted.
+    assert!(3 * numbers[0] > numbers.iter().sum(), "{numbers:?}");
+    assert_eq!(drawn_often(drawn(Kind::Price).0), [5, 7, 10]);
+}
+
+/// Of each usual kind at least every third file has rows, call records and
+/// losses, the last also before its end; `cut` ends within each of them.
+#[test]
+fn files_with_charging() {
+    for kind in ["clean", "mutated", "cut", "unknown", "mixed"] {
+        let files = (0..30).filter(|&seed| {
+            let file = generate::record_file(seed, kind, 200).expect("a kind");
+            let kinds: Vec<Kind> = split(&file).iter().map(|(kind, _)| *kind).collect();
+            let count = |kind| kinds.iter().filter(|&&found| found == kind).count();
+            count(Kind::Call) > 20 && count(Kind::Price) > 5 && count(Kind::Losses) > 1
+        });
+        assert!(files.count() >= 10, "{kind}");
+    }
+    let mut cut = [0; 2];
+    for seed in 0..60 {
+        let file = generate::record_file(seed, "cut", 10).expect("a kind");
+        let whole: usize = split(&file).iter().map(|(_, body)| 1 + body.len()).sum();
+        cut[0] += usize::from(file[whole] == Kind::Call.byte());
+        cut[1] += usize::from(file[whole] == Kind::Price.byte());
+    }
+    assert!(cut.iter().all(|&count| count > 0), "{cut:?}");
+}
+
+/// Every field at and over its limit.
+#[test]
+fn edges_of_call_records_and_rows() {
+    let mut fields: [BTreeSet<u32>; 4] = Default::default();
+    for seed in 0..60 {
+        let file = generate::record_file(seed, "clean", 200).expect("a kind");
+        for (kind, body) in split(&file) {
+            let two = |place| u32::from(u16::from_be_bytes([body[place], body[place + 1]]));
+            let four = |place| two(place) << 16 | two(place + 2);
+            match kind {
+                Kind::Call => {
+                    fields[0].insert(two(4));
+                    fields[1].insert(four(6));
+                    fields[2].insert(four(10));
+                }
+                Kind::Price => drop(fields[3].insert(four(17))),
+                _ => {}
+            }
+        }
+    }
+    for (field, most) in fields.iter().zip([511, 86_400, 1_440_000_000, 1_000_000]) {
+        assert!([0, 1, most, most + 1]
+            .iter()
+            .all(|edge| field.contains(edge)));
+    }
+}
+
+/// The sums of some records: count, due, billed.
+type Recount = (i64, i64, i64);
+
+/// A recount of a file from its records and what became of each.
+#[derive(Default)]
+struct Recounted {
+    rows: Vec<(Vec<u8>, i64)>,
+    districts: BTreeMap<u16, Recount>,
+    whole: Recount,
+}
+
+impl Recounted {
+    fn add_row(&mut self, body: &[u8]) {
+        let price = u32::from_be_bytes([body[17], body[18], body[19], body[20]]);
+        let prefix = body[1..][..usize::from(body[0])].to_vec();
+        self.rows.push((prefix, i64::from(price)));
+    }
+
+    fn add_call(&mut self, body: &[u8], answer: &Answer) {
+        let four = |place| {
+            let bytes = [
+                body[place],
+                body[place + 1],
+                body[place + 2],
+                body[place + 3],
+            ];
+            i64::from(u32::from_be_bytes(bytes))
+        };
+        let incoming = &body[16..][..usize::from(body[15])];
+        let price = match answer.outcome {
+            Outcome::Responded => 0,
+            Outcome::Formatted => self.price(&answer.digits),
+            _ => self.price(incoming),
+        };
+        let (due, billed) = (four(6) * price, four(10) * 60);
+        let district = u16::from_be_bytes([body[4], body[5]]);
+        for sums in [self.districts.entry(district).or_default(), &mut self.whole] {
+            *sums = (sums.0 + 1, sums.1 + due, sums.2 + billed);
+        }
+    }
+
+    fn price(&self, digits: &[u8]) -> i64 {
+        let fitting = self
+            .rows
+            .iter()
+            .filter(|(prefix, _)| digits.starts_with(prefix));
+        let longest = fitting.max_by_key(|(prefix, _)| prefix.len());
+        longest.expect("an accepted record has a row").1
+    }
+
+    /// Doubles round halves away from zero too, and these sums are far from
+    /// where a double is no longer exact.
+    fn lines(&self) -> String {
+        let cents = |sums: &Recount| ((sums.1 - sums.2) as f64 / 60_000.0).round() as i64;
+        let line = |(district, sums)| format!("{district} {}\n", cents(sums));
+        let lines: String = self.districts.iter().map(line).collect();
+        lines + &format!("total {}\n", cents(&self.whole))
+    }
+}
+
+/// C-11's claim: at each kind 18 the lines are those of the accepted records
+/// before it, each priced as the rows then stood.  Refused ones, rows, edits
+/// and openings between them add to nothing.
+#[test]
+fn losses_are_those_of_the_accepted_records() {
+    let mut compared = 0;
+    for (seed, kind) in (0..40).flat_map(|seed| [(seed, "clean"), (seed, "mutated")]) {
+        let file = generate::record_file(seed, kind, 200).expect("a kind");
+        let (mut run, mut recounted) = (Run::default(), Recounted::default());
+        let mut before = Vec::new();
+        for (kind, body) in split(&file) {
+            before.push(kind.byte());
+            before.extend(&body);
+            match run.carry_out(kind, &body) {
+                Ok(Reply::Provisioned) if kind == Kind::Price => recounted.add_row(&body),
+                Ok(Reply::Answered(answer)) if kind == Kind::Call => {
+                    recounted.add_call(&body, &answer);
+                }
+                Ok(Reply::Losses(_)) => {
+                    assert!(lines(&before).ends_with(&recounted.lines()));
+                    compared += recounted.districts.len();
+                }
+                _ => {}
+            }
+            let sums = run.ledger.whole;
+            let whole = (sums.count as i64, sums.due as i64, sums.billed as i64);
+            assert_eq!(whole, recounted.whole);
+        }
+    }
+    assert!(compared > 300, "{compared}");
+}
+
+/// Scripts hold lists and ledgers in range and out of it, and numbers at and
+/// one over every bound of a ledger.
+#[test]
+fn lists_and_ledgers_of_scripts() {
+    let (mut lists, mut ledgers) = ([0; 2], [0; 2]);
+    let mut numbers = BTreeSet::new();
+    for seed in 0..100 {
+        let mut machine = Machine::default();
+        for line in generate::call_script(seed, 200).lines() {
+            machine.carry_out(line).expect("a call");
+            let in_range = Prices::decode(&machine.prices).is_some();
+            lists[usize::from(in_range)] += 1;
+            if line.starts_with("ledger ") {
+                let (districts, whole) = (&machine.districts, machine.whole);
+                let in_range = Ledger::decode(districts, whole).is_some();
+                ledgers[usize::from(in_range)] += 1;
+                let all = [whole.count, whole.due, whole.billed];
+                numbers.extend(all.iter().chain(districts).copied());
+            }
+        }
+    }
+    assert!(lists.iter().all(|&count| count > 500), "{lists:?}");
+    assert!(ledgers.iter().all(|&count| count > 100), "{ledgers:?}");
+    // The most that 3, 1,000 and 10,000,000 records can come to.
+    let mosts = [3, 1_000, 10_000_000].map(|count| count * 86_400_000_000);
+    let counts = [3, 1_000, 9_999_999, 10_000_000];
+    for bound in mosts.iter().chain(&counts) {
+        assert!(numbers.contains(bound), "{bound}");
+        assert!(numbers.contains(&(bound + 1)), "{bound} and 1");
+    }
+    let outside = [-1, i64::MIN, i64::MAX];
+    assert!(outside.iter().all(|number| numbers.contains(number)));
 }

@@ -74,6 +74,91 @@ fn the_form_of_every_line() {
     assert_eq!(line(&mut machine, "show"), "show 0102");
 }
 
+/// One row of 1,000 (3e8) for every number, as a body and as a list.
+const ROW: &str = "0000000000000000000000000000000000000003e8";
+const LIST: &str = "000100000000000000000000000000000000000000000003e8";
+
+#[test]
+fn the_form_of_the_lines_with_prices() {
+    let mut machine = Machine::default();
+    let add = format!("add_price {ROW}");
+    assert_eq!(line(&mut machine, "prices -"), "prices -");
+    assert_eq!(line(&mut machine, &add), format!("add_price 0 {LIST}"));
+    assert_eq!(line(&mut machine, &add), format!("add_price 7 {LIST}"));
+    assert_eq!(
+        line(&mut machine, "add_price 00"),
+        format!("add_price 1 {LIST}")
+    );
+    assert_eq!(line(&mut machine, "poke_price 6145 1"), "poke_price 6145 1");
+    assert!(line(&mut machine, &add).starts_with("add_price 5 "));
+    let set = format!("prices {LIST}");
+    assert_eq!(line(&mut machine, &format!("{set}0000")), set);
+    assert_eq!(line(&mut machine, &add), format!("add_price 7 {LIST}"));
+    for fault in [
+        "poke_price 6146 0",
+        "poke_price 0 256",
+        "add_price",
+        &format!("prices {}", "00".repeat(6147)),
+    ] {
+        assert!(machine.carry_out(fault).is_err(), "{fault}");
+    }
+}
+
+/// 60 seconds (3c) at 1,000 are 60,000 (ea60) units, and 600 (258) billed are
+/// 36,000 (8ca0): a loss of 24,000.
+#[test]
+fn the_form_of_the_lines_with_a_ledger() {
+    let mut machine = Machine::default();
+    machine.memory = Bench::new(&[OPEN, S1, "add-rule NATL * * 0"]).memory;
+    line(&mut machine, &format!("add_price {ROW}"));
+    assert_eq!(line(&mut machine, "ledger - -"), "ledger - -");
+    let written = ["district_loss 1", "total_loss"].map(|call| line(&mut machine, call));
+    assert_eq!(written, ["district_loss 0 0 0 0", "total_loss 0 1 0 0"]);
+    let out = "ee".repeat(36);
+    let number = to_hex(&body("number NATL 876 RN 15 asd - grn -"));
+    let call = format!("take_call 0000000900010000003c00000258{number} {out}");
+    let sums = "0000000000000001000000000000ea600000000000008ca0";
+    let answer = format!("0 4 1 0 1 0200000000000000 5 0105080706{}", &out[10..]);
+    let ledger = format!("{sums} {}{sums}", "00".repeat(24));
+    assert_eq!(
+        line(&mut machine, &call),
+        format!("take_call {answer} {ledger}")
+    );
+    let losses = ["district_loss 1", "total_loss", "district_loss 512"];
+    assert_eq!(
+        losses.map(|call| line(&mut machine, call)),
+        [
+            "district_loss 0 1 24000 0",
+            "total_loss 0 1 24000 0",
+            "district_loss 5 0 0 0"
+        ]
+    );
+    // One record over the limit of 10,000,000 (989680), and below zero.
+    for whole in ["0000000000989681", "ffffffffffffffff"] {
+        let set = format!("ledger {whole} -");
+        assert_eq!(line(&mut machine, &set), set);
+        let refused = format!("5 0 0 0 0 0000000000000000 0 {out} {whole} -");
+        assert_eq!(line(&mut machine, &call), format!("take_call {refused}"));
+        assert_eq!(line(&mut machine, "total_loss"), "total_loss 5 0 0 0");
+    }
+}
+
+#[test]
+fn faults_in_the_lines_with_a_ledger() {
+    for fault in [
+        "ledger - 00",
+        "ledger -",
+        &format!("ledger {} -", "00".repeat(32)),
+        &format!("ledger - {}", "00".repeat(8 * 1537)),
+        "district_loss 65536",
+        "district_loss",
+        "total_loss 1",
+        "take_call -",
+    ] {
+        assert!(Machine::default().carry_out(fault).is_err(), "{fault}");
+    }
+}
+
 #[test]
 fn lines_that_are_passed_over_and_faults() {
     let mut machine = Machine::default();
