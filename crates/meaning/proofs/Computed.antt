@@ -7,11 +7,12 @@ use mathlib.Core.Path.{_≡_, refl}
 use mathlib.Core.Bool.{Bool, true, false}
 use mathlib.Core.List.{List, [], _∷_, _++_, map, reverse}
 use mathlib.Core.Option.{Option, none, some}
-use lib.ListN.{take, drop, set, replicate}
+use lib.IntN.{ℤ, pos, negsuc}
+use lib.ListN.{length, take, drop, set, replicate}
 use lib.Dec.{ltb}
-use Rattle.meaning.specs.Sizes.{ROOMS-BYTES, ACCEPTING-AT, SETTINGS-BYTES, OPENING-BYTES, CONTENT-BYTES, SET-BODY, NUMBER-BYTES, LONGEST-RECORD, DIGIT-ROOM, RULES-AT, ROOMS-AT, SETTINGS-AT, SETTINGS-END, SETS-AT, CONTENT-AT, COUNT-AT, SET-WIDTH, RULE-WIDTH, RUN-SETS, RUN-RULES, RUN-BYTES}
-use Rattle.meaning.specs.Basics.{if_then_else_, writtenOver, padded}
-use Rattle.meaning.specs.Settings.{roomsOf, roomsInRange, bytesNeeded, settingsOf, settingsInRange, lookupOf, entityInRange, asdOrGrnInRange, lookupInRange, numberOf, numberInRange, dialledInRange}
+use Rattle.meaning.specs.Sizes.{ROOMS-BYTES, ACCEPTING-AT, SETTINGS-BYTES, OPENING-BYTES, CONTENT-BYTES, SET-BODY, NUMBER-BYTES, LONGEST-RECORD, DIGIT-ROOM, RULES-AT, ROOMS-AT, SETTINGS-AT, SETTINGS-END, SETS-AT, CONTENT-AT, COUNT-AT, SET-WIDTH, RULE-WIDTH, PRICE-ROOM, PRICES-BYTES, DISTRICTS, LEDGER-NUMBERS, RUN-SETS, RUN-RULES, RUN-BYTES}
+use Rattle.meaning.specs.Basics.{if_then_else_, allOf, writtenOver, padded}
+use Rattle.meaning.specs.Settings.{Number, roomsOf, roomsInRange, bytesNeeded, settingsOf, settingsInRange, lookupOf, entityInRange, asdOrGrnInRange, lookupInRange, numberOf, numberInRange, dialledInRange}
 use Rattle.meaning.specs.Filters.{filterOf, filterInRange, fitsNumber, rank, compareFilters}
 use Rattle.meaning.specs.Rules.{firstLargest, weight, chosenPlace, chosen}
 use Rattle.meaning.specs.Actions.{valueOf, actionsOf, mostOf, caInRange, contentInRange}
@@ -22,13 +23,13 @@ use Rattle.meaning.specs.Plan.{Plan, settingsIn, referrers, fresh, withS
 use Rattle.meaning.specs.Answer.{Answer, refused, unserved, served, outgoingClass, formatted, afterServices, answerBy, answerWith, answerOf, answer}
 use Rattle.meaning.specs.View.{view, answerByView}
 use Rattle.meaning.specs.Reads.{Read, Count, Listed, conditionedBy, conditioned, stretchBy, stretch, setContent, referrerCount, listing, ruleCount, ruleAtPlace}
-use Rattle.meaning.specs.Calls.{Call, OPEN-PLAN, ADD-SET, REPLACE-SET, REMOVE-SET, ADD-RULE, CHANGE-RULE, REMOVE-RULE, NUMBER, REFS, LIST, kinds, isKind, isCall, bodyLength, openingLines, addSetLines, replaceSetLines, removeSetLines, addRuleLines, changeRuleLines, removeRuleLines, refusal, lacksBytes, after, putIn, refusalsFrom, operationOf, callOf}
+use Rattle.meaning.specs.Calls.{Call, OPEN-PLAN, ADD-SET, REPLACE-SET, REMOVE-SET, ADD-RULE, CHANGE-RULE, REMOVE-RULE, NUMBER, REFS, LIST, CALL, PRICE, LOSSES, kinds, isKind, isCall, bodyLength, openingLines, addSetLines, replaceSetLines, removeSetLines, addRuleLines, changeRuleLines, removeRuleLines, refusal, lacksBytes, after, putIn, refusalsFrom, operationOf, callOf}
 use Rattle.meaning.specs.LookBack.{accepted, lastOpening, lastContent, lastSet}
 use Rattle.meaning.specs.History.{rising}
-use Rattle.meaning.specs.Prices.{rowGiven, rowInRange, rowWeight, rowPlace, priceFor, priceRefusal, rowsAfter}
-use Rattle.meaning.specs.Ledger.{emptyLedger, sumInRange, totalsInRange, ledgerInRange, plus, withTotals, entered, cents}
-use Rattle.meaning.specs.Charges.{callRecordOf, callInRange, pricedOn, dueOf, entryOf, chargeLines, takingRefusal, charged, ledgerAfter}
-use Rattle.meaning.specs.Records.{decimal, digitText, okLine, noLine, numberLine, refsLine, listedLine, endLine, lossLine, totalLine, lossText, lacksProgramRoom, recordText, recordHouse, fileText, End, fileEnd}
+use Rattle.meaning.specs.Prices.{PriceRow, rowGiven, rowInRange, rowWeight, rowPlace, priceFor, rowPasses, listTests, pricesPass, priceRefusal, rowsAfter}
+use Rattle.meaning.specs.Ledger.{LEDGER-LIMIT, Ledger, ledgerOf, totalsOf, emptyLedger, sumInRange, totalsInRange, ledgerInRange, isFull, Entry, plus, withTotals, entered, cents}
+use Rattle.meaning.specs.Charges.{CallRecord, callRecordOf, callInRange, pricedOn, dueOf, entryOf, chargeLines, takingRefusal, charged, ledgerAfter}
+use Rattle.meaning.specs.Records.{decimal, digitText, okLine, noLine, numberLine, refsLine, listedLine, endLine, lossLine, totalLine, lossText, lacksProgramRoom, recordText, recordHouse, houseWith, textFrom, fileText, End, fileEnd}
 use Rattle.meaning.specs.Answers.{codeOf, classOf, outgoingOf, numberOfRefusal}
 use Rattle.meaning.specs.declared.ClassOf.{ClassOf}
 use Rattle.meaning.specs.declared.ClassOf.the-variants.{Known, Unknown as UnknownClass}
@@ -52,7 +53,7 @@ run-given-whole = refl
 
 -- every definition that a call record, a row and the lines of losses are computed with besides
 losing : ℕ
-unfolding everything rowGiven rowInRange rowWeight rowPlace priceFor priceRefusal rowsAfter emptyLedger sumInRange totalsInRange ledgerInRange plus withTotals entered cents callRecordOf callInRange pricedOn dueOf entryOf chargeLines takingRefusal charged ledgerAfter lossLine totalLine lossText
+unfolding everything rowGiven rowInRange rowWeight rowPlace priceFor rowPasses pricesPass priceRefusal rowsAfter emptyLedger sumInRange totalsInRange ledgerInRange plus withTotals entered cents callRecordOf callInRange pricedOn dueOf entryOf chargeLines takingRefusal charged ledgerAfter lossLine totalLine lossText
 losing = 0
 
 -- C-11's three accounts of one district: each loses less than half a cent, and together they lose one
@@ -672,6 +673,268 @@ numbered =
     ∷ row (map (λ c. shownOutgoing (outgoingOf c)) (0 ∷ 1 ∷ 2 ∷ 3 ∷ 4 ∷ 5 ∷ 6 ∷ 254 ∷ 255 ∷ [])) (0 ∷ 1 ∷ 2 ∷ 3 ∷ 4 ∷ 5 ∷ 256 ∷ 256 ∷ 255 ∷ []) refl
     ∷ []
 
+-- THE LOSS BY DISTRICT (C-11)
+
+-- "4 bytes, high byte first as in every number here"
+abbrev pub four : ℕ → List ℕ
+four n = two (n / 65536) ++ two (n % 65536)
+
+-- prefix, price
+abbrev pub newPrice : String → ℕ → List ℕ
+newPrice prefix price = PRICE ∷ (string 16 (digits prefix) ++ four price)
+
+-- account, district, seconds, billed, and a number's record of which the body is taken
+abbrev pub newCall : ℕ → ℕ → ℕ → ℕ → List ℕ → List ℕ
+newCall account district seconds billed n = CALL ∷ (four account ++ (two district ++ (four seconds ++ (four billed ++ drop 1 n))))
+
+abbrev pub losses : List ℕ
+losses = LOSSES ∷ []
+
+-- to a number that no rule is for
+abbrev pub someCall : ℕ → ℕ → ℕ → List ℕ
+someCall district seconds billed = newCall 7 district seconds billed (number 1 "87654321" 0 "")
+
+-- 1 for a call record in range, and for a row's body
+abbrev pub callPasses : List ℕ → ℕ
+callPasses r = asNumber (callInRange (drop 1 r))
+
+abbrev pub pricePasses : List ℕ → ℕ
+pricePasses r = asNumber (rowInRange (drop 1 r))
+
+-- 1 and what is there, or 0
+abbrev pub shownOption : {A : Type 0} → (A → List ℕ) → Option A → List ℕ
+shownOption show none = 0 ∷ []
+shownOption show (some a) = 1 ∷ show a
+
+-- THE RECORD
+
+abbrev callFields : CallRecord → List ℕ
+callFields c = c .account ∷ c .district ∷ c .seconds ∷ c .billed ∷ c .number
+
+-- "account .., district .., seconds .., billed .., then a number record's body": each at its place
+pub call-fields : callFields (callRecordOf (1 ∷ 2 ∷ 3 ∷ 4 ∷ 5 ∷ 6 ∷ 7 ∷ 8 ∷ 9 ∷ 10 ∷ 11 ∷ 12 ∷ 13 ∷ 14 ∷ drop 1 (number 1 "87654321" 2 "0015")))
+    ≡ 16909060 ∷ 1286 ∷ 117967114 ∷ 185339150 ∷ drop 1 (number 1 "87654321" 2 "0015")
+unfolding losing
+call-fields = refl
+
+-- "seconds (4, at most 86,400)"
+pub seconds-bound : map callPasses (someCall 4 86400 0 ∷ someCall 4 86401 0 ∷ []) ≡ 1 ∷ 0 ∷ []
+unfolding losing
+seconds-bound = refl
+
+-- "billed (4, in thousandths of a cent, at most 1,440,000,000)"
+pub billed-bound : map callPasses (someCall 4 0 1440000000 ∷ someCall 4 0 1440000001 ∷ []) ≡ 1 ∷ 0 ∷ []
+unfolding losing
+billed-bound = refl
+
+-- "then a number record's body", with its own ranges
+pub called-number : map callPasses (someCall 4 0 0 ∷ newCall 7 4 0 0 (number 6 "87654321" 0 "") ∷ []) ≡ 1 ∷ 0 ∷ []
+unfolding losing
+called-number = refl
+
+-- WHAT IT IS DUE
+
+-- an answer of this outcome, with outgoing digits 3
+abbrev outcomeOf : ℕ → Answer
+outcomeOf o = record { refusal = 0; outcome = o; class = 1; response = 0; count = 0; actions = noActions; digits = 3 ∷ [] }
+
+-- incoming digits 1, 2
+abbrev incoming : Number
+incoming = numberOf (drop 1 (number 1 "12" 0 ""))
+
+abbrev rowsGiven : List (List ℕ) → List PriceRow
+rowsGiven rs = map (λ r. rowGiven (drop 1 r)) rs
+
+abbrev digitsPriced : ℕ → List ℕ
+digitsPriced o = shownOption (λ ds. ds) (pricedOn incoming (outcomeOf o))
+
+-- of 60 seconds
+abbrev dueAfter : List PriceRow → ℕ → List ℕ
+dueAfter rs o = shownOption (λ n. n ∷ []) (dueOf rs 60 incoming (outcomeOf o))
+
+-- "Outcome 4 is priced on the outgoing digits; 0, 1 and 3 on the incoming; 2 is due nothing"
+pub priced-on : map digitsPriced (0 ∷ 1 ∷ 2 ∷ 3 ∷ 4 ∷ []) ≡ (1 ∷ 1 ∷ 2 ∷ []) ∷ (1 ∷ 1 ∷ 2 ∷ []) ∷ (0 ∷ []) ∷ (1 ∷ 1 ∷ 2 ∷ []) ∷ (1 ∷ 3 ∷ []) ∷ []
+unfolding losing
+priced-on = refl
+
+-- so at 1,000 for the incoming digits and 7,000 for the outgoing
+pub due-after : map (dueAfter (rowsGiven (newPrice "1" 1000 ∷ newPrice "3" 7000 ∷ []))) (0 ∷ 1 ∷ 2 ∷ 3 ∷ 4 ∷ [])
+    ≡ (1 ∷ 60000 ∷ []) ∷ (1 ∷ 60000 ∷ []) ∷ (1 ∷ 0 ∷ []) ∷ (1 ∷ 60000 ∷ []) ∷ (1 ∷ 420000 ∷ []) ∷ []
+unfolding losing
+due-after = refl
+
+-- "no row fits, outcome 2 excepted"
+pub due-without-row : map (dueAfter []) (0 ∷ 1 ∷ 2 ∷ 3 ∷ 4 ∷ []) ≡ (0 ∷ []) ∷ (0 ∷ []) ∷ (1 ∷ 0 ∷ []) ∷ (0 ∷ []) ∷ (0 ∷ []) ∷ []
+unfolding losing
+due-without-row = refl
+
+-- "the longest that fits winning", the empty prefix too
+pub longest-row : map (λ ds. shownOption (λ n. n ∷ []) (priceFor (rowsGiven (newPrice "" 1 ∷ newPrice "8" 2 ∷ newPrice "876" 3 ∷ newPrice "9" 4 ∷ [])) (digits ds))) ("" ∷ "7" ∷ "87" ∷ "8765" ∷ "98" ∷ [])
+    ≡ (1 ∷ 1 ∷ []) ∷ (1 ∷ 1 ∷ []) ∷ (1 ∷ 2 ∷ []) ∷ (1 ∷ 3 ∷ []) ∷ (1 ∷ 4 ∷ []) ∷ []
+unfolding losing
+longest-row = refl
+
+abbrev entryFields : Entry → List ℕ
+entryFields e = e .district ∷ e .due ∷ e .billed ∷ []
+
+-- what a call adds at this price for every number
+abbrev entryAt : ℕ → List ℕ → List ℕ
+entryAt price r = orNothing (λ p. entryFields (entryOf p (rowsGiven (newPrice "" price ∷ [])) (drop 1 r))) (behind (plain ∷ []))
+
+-- "due is seconds times price, billed is taken times 60"; the most of either is 86,400,000,000
+pub units-entered : (entryAt 1000 (someCall 4 61 601) ∷ entryAt 1000000 (someCall 5 86400 1440000000) ∷ []) ≡ (4 ∷ 61000 ∷ 36060 ∷ []) ∷ (5 ∷ 86400000000 ∷ 86400000000 ∷ []) ∷ []
+unfolding losing
+units-entered = refl
+
+-- THE PRICE LIST
+
+-- "up to 1,000,000 thousandths of a cent"
+pub price-bound : map pricePasses (newPrice "8" 1000000 ∷ newPrice "8" 1000001 ∷ []) ≡ 1 ∷ 0 ∷ []
+unfolding losing
+price-bound = refl
+
+-- the same in a lent list: "a field out of range"
+pub held-price-bound : map (λ n. asNumber (pricesPass (rowsGiven (newPrice "8" n ∷ [])))) (1000000 ∷ 1000001 ∷ []) ≡ 1 ∷ 0 ∷ []
+unfolding losing
+held-price-bound = refl
+
+-- "by prefix of 0 to 16 digits", and its unused bytes
+pub prefix-bound : map pricePasses (newPrice "" 5 ∷ newPrice "0123456789abcdef" 5 ∷ but 1 17 (newPrice "0123456789abcdef" 5) ∷ but 2 16 (newPrice "8" 5) ∷ but 3 1 (newPrice "8" 5) ∷ []) ≡ 1 ∷ 1 ∷ 0 ∷ 0 ∷ 0 ∷ []
+unfolding losing
+prefix-bound = refl
+
+-- "or a prefix twice", and rows out of order
+pub prefix-twice : map (λ rs. asNumber (pricesPass (rowsGiven rs))) ((newPrice "" 5 ∷ newPrice "8" 6 ∷ []) ∷ (newPrice "8" 5 ∷ newPrice "8" 6 ∷ []) ∷ (newPrice "8" 6 ∷ newPrice "" 5 ∷ []) ∷ []) ≡ 1 ∷ 0 ∷ 0 ∷ []
+unfolding losing
+prefix-twice = refl
+
+-- rows 0 to n - 1 behind those in hand: row k has k / 16 and k % 16 for its prefix
+abbrev rowsTo : ℕ → List PriceRow → List PriceRow
+rowsTo zero rs = rs
+rowsTo (suc k) rs = rowsTo k (record { prefix = k / 16 ∷ k % 16 ∷ []; price = 5 } ∷ rs)
+
+-- CUT, RANGE for a list and for a row, TAKEN, FULL, each where all that come later hold too; and a row that is added
+pub price-refusals : (priceRefusal none (drop 2 (newPrice "00" 1000001)) ∷ priceRefusal none (drop 1 (newPrice "00" 1000001))
+    ∷ map (λ r. priceRefusal (some (rowsTo PRICE-ROOM [])) (drop 1 r)) (newPrice "00" 1000001 ∷ newPrice "00" 5 ∷ newPrice "000" 5 ∷ [])
+    ++ (priceRefusal (some (rowsTo 3 [])) (drop 1 (newPrice "000" 5)) ∷ [])) ≡ 1 ∷ 5 ∷ 5 ∷ 7 ∷ 10 ∷ 0 ∷ []
+unfolding losing
+price-refusals = refl
+
+abbrev rowFields : PriceRow → List ℕ
+rowFields r = r .price ∷ r .prefix
+
+-- price and prefix of each row behind a row's record
+abbrev rowsBehind : List (List ℕ) → List ℕ → List ℕ
+rowsBehind rs r = orNothing (λ (left : List PriceRow). file (map rowFields left)) (rowsAfter (some (rowsGiven rs)) (drop 1 r))
+
+-- a row goes to its place in prefix order: the first, the last and between; one that is refused leaves the rows
+pub row-placed : map (rowsBehind (newPrice "1" 5 ∷ newPrice "2" 6 ∷ [])) (newPrice "" 7 ∷ newPrice "12" 7 ∷ newPrice "3" 7 ∷ newPrice "2" 7 ∷ [])
+    ≡ (7 ∷ 5 ∷ 1 ∷ 6 ∷ 2 ∷ []) ∷ (5 ∷ 1 ∷ 7 ∷ 1 ∷ 2 ∷ 6 ∷ 2 ∷ []) ∷ (5 ∷ 1 ∷ 6 ∷ 2 ∷ 7 ∷ 3 ∷ []) ∷ (5 ∷ 1 ∷ 6 ∷ 2 ∷ []) ∷ []
+unfolding losing
+row-placed = refl
+
+-- THE LEDGER
+
+-- these for the whole, and no number for a district, which is read as 0: what 1,536 of them make is in the files below
+abbrev wholeOf : ℤ → ℤ → ℤ → Ledger
+wholeOf count due billed = ledgerOf [] (totalsOf count due billed)
+
+-- "A ledger takes 10,000,000 records": LEDGER FULL from there on, and RANGE over it
+pub records-bound : (map (λ n. asNumber (isFull (wholeOf (pos n) (pos 0) (pos 0)))) (9999999 ∷ 10000000 ∷ [])
+    ++ map (λ n. asNumber (ledgerInRange (wholeOf (pos n) (pos 0) (pos 0)))) (10000000 ∷ 10000001 ∷ [])) ≡ 0 ∷ 1 ∷ 1 ∷ 0 ∷ []
+unfolding losing
+records-bound = refl
+
+-- "a due or billed sum .. is negative or over the count beside it times 86,400,000,000"
+pub sum-bound : map (λ s. asNumber (sumInRange (pos 2) s)) (negsuc 0 ∷ pos 0 ∷ pos 172800000000 ∷ pos 172800000001 ∷ []) ≡ 0 ∷ 1 ∷ 1 ∷ 0 ∷ []
+unfolding losing
+sum-bound = refl
+
+-- so for either sum, beside a count that is at most 2
+pub each-sum : map (λ t. asNumber (totalsInRange (pos 2) t))
+    (totalsOf (pos 2) (pos 1) (pos 1) ∷ totalsOf (pos 3) (pos 1) (pos 1) ∷ totalsOf (pos 2) (negsuc 0) (pos 1) ∷ totalsOf (pos 2) (pos 1) (negsuc 0) ∷ []) ≡ 1 ∷ 0 ∷ 0 ∷ 0 ∷ []
+unfolding losing
+each-sum = refl
+
+-- "a district's count is over the whole's": district 1 has 2 and 3 records beside 2
+pub district-count : map (λ n. asNumber (ledgerInRange (ledgerOf (pos 0 ∷ pos 0 ∷ pos 0 ∷ pos n ∷ []) (totalsOf (pos 2) (pos 0) (pos 0))))) (2 ∷ 3 ∷ []) ≡ 1 ∷ 0 ∷ []
+unfolding losing
+district-count = refl
+
+-- THE REFUSALS OF A CALL RECORD
+
+-- RELEASECALL for no record, DFLTRN none; a rule for NATL, with INPRTG and CDPNNP
+abbrev chargePlan : List (List ℕ)
+chargePlan = opening 8 8 "55" "" "" "" (4 ∷ 1 ∷ 1 ∷ 1 ∷ []) ∷ newSet 0 255 dnxCcdef (1 ∷ 2 ∷ []) (11 ∷ 4 ∷ []) ∷ newRule 1 "" 0 0 ∷ []
+
+-- calls that are formatted, responded to, refused with SHORT and with LONG, and one out of range besides
+abbrev formattedCall : List ℕ
+formattedCall = newCall 7 4 60 0 (number 1 "87654321" 2 "0015")
+
+abbrev respondedCall : List ℕ
+respondedCall = newCall 7 4 60 0 (number 1 "87654321" 0 "")
+
+abbrev shortCall : List ℕ
+shortCall = newCall 7 4 60 0 (number 1 "" 2 "0015")
+
+abbrev longCall : List ℕ
+longCall = newCall 7 4 60 0 (number 1 "12345678901234567890123456789012" 2 "1")
+
+abbrev wrongCall : List ℕ
+wrongCall = newCall 7 4 100000 0 (number 1 "" 2 "0015")
+
+abbrev fullLedger : Ledger
+fullLedger = wholeOf (pos LEDGER-LIMIT) (pos 0) (pos 0)
+
+-- full, and over the limit
+abbrev wrongLedger : Ledger
+wrongLedger = wholeOf (pos (LEDGER-LIMIT + 1)) (pos 0) (pos 0)
+
+abbrev takenOver : Option (List PriceRow) → Ledger → ℕ → List ℕ → ℕ
+takenOver rows l size r = takingRefusal (behind chargePlan) rows l size (drop 1 r)
+
+-- CUT, PLAN, ROOM and RANGE, each where all that come later hold too: RANGE for the list, the ledger and the record
+pub taking-first : (takingRefusal none none wrongLedger (DIGIT-ROOM - 1) (drop 2 wrongCall) ∷ takingRefusal none none wrongLedger (DIGIT-ROOM - 1) (drop 1 wrongCall)
+    ∷ takenOver none wrongLedger (DIGIT-ROOM - 1) wrongCall ∷ takenOver none fullLedger DIGIT-ROOM shortCall ∷ takenOver (some []) wrongLedger DIGIT-ROOM shortCall
+    ∷ takenOver (some []) fullLedger DIGIT-ROOM wrongCall ∷ []) ≡ 1 ∷ 3 ∷ 4 ∷ 5 ∷ 5 ∷ 5 ∷ []
+unfolding losing
+taking-first = refl
+
+-- "14 NO PRICE (no row fits, outcome 2 excepted) and 15 LEDGER FULL, after 13": over a full ledger and no row LONG, NO PRICE and, responded to, LEDGER FULL
+pub taking-last : map (takenOver (some []) fullLedger DIGIT-ROOM) (longCall ∷ formattedCall ∷ respondedCall ∷ []) ≡ 13 ∷ 14 ∷ 15 ∷ []
+unfolding losing
+taking-last = refl
+
+-- LEDGER FULL with a row that fits; a call that is responded to is taken without one
+pub full-or-taken : (takenOver (some (rowsGiven (newPrice "" 5 ∷ []))) fullLedger DIGIT-ROOM formattedCall ∷ takenOver (some []) (wholeOf (pos 0) (pos 0) (pos 0)) DIGIT-ROOM respondedCall ∷ []) ≡ 15 ∷ 0 ∷ []
+unfolding losing
+full-or-taken = refl
+
+-- FILES
+
+-- the text of a file, over an empty ledger with the numbers of districts 0 to 17 alone, which computes sooner: C-11's three accounts have all of them
+abbrev monthText : List (List ℕ) → List ℕ
+monthText rs = textFrom (length (file rs)) (houseWith none [] (ledgerOf (replicate 54 (pos 0)) (totalsOf (pos 0) (pos 0) (pos 0)))) (file rs)
+
+-- "below zero where we were overcharged", "as `17 -1`": 60 seconds at 2,500 less 3,000 billed, half a cent; a district whose loss is nothing, by outcome 4 at 3,000 for its outgoing
+-- digits; a refused row changes no line
+pub overcharged : monthText
+    (plain ∷ s1 0 ∷ newRule 1 "" 0 0 ∷ newPrice "8" 2500 ∷ newPrice "0015" 3000 ∷ newPrice "8" 1 ∷ newCall 7 17 60 3000 (number 0 "87654321" 0 "")
+    ∷ newCall 8 4 60 3000 (number 1 "87654321" 2 "0015") ∷ losses ∷ [])
+    ≡ ascii "ok\nok\nok\nok\nok\nno 7\n0 0 0 0 -\n4 1 0 1 001587654321\n4 0\n17 -1\ntotal -1\n"
+unfolding losing
+overcharged = refl
+
+-- "Kinds 17 and 18 don't look at the plan": before an opening, where a call record draws PLAN
+pub before-opening : fileText (file (newPrice "" 1000 ∷ someCall 4 60 0 ∷ losses ∷ [])) ≡ ascii "ok\nno 3\ntotal 0\n"
+unfolding losing
+before-opening = refl
+
+-- "an opening leaves rows and ledger"
+pub opening-between : monthText (newPrice "" 1000 ∷ plain ∷ someCall 4 60 0 ∷ plain ∷ someCall 4 60 0 ∷ losses ∷ []) ≡ ascii "ok\nok\n0 1 0 0 -\nok\n0 1 0 0 -\n4 2\ntotal 2\n"
+unfolding losing
+opening-between = refl
+
 -- SIXTY-FOUR AND MORE
 
 -- rules 63 to 0 of set 0: rule k has class k / 16 and the one digit k % 16 for its prefix
@@ -773,6 +1036,26 @@ run-asked = refl
 -- the places in a set slot and in the header (docs/LAYOUT.md)
 pub places : (RULES-AT ∷ ROOMS-AT ∷ SETTINGS-AT ∷ SETTINGS-END ∷ SETS-AT ∷ CONTENT-AT ∷ COUNT-AT ∷ []) ≡ 4 ∷ 8 ∷ 12 ∷ 49 ∷ 64 ∷ 1 ∷ 46 ∷ []
 places = refl
+
+-- "A price list of up to 256 rows", its bytes (docs/LAYOUT.md), and "count, due and billed for each district", "up to 511"
+pub losses-asked : (PRICE-ROOM ∷ PRICES-BYTES ∷ DISTRICTS ∷ LEDGER-NUMBERS ∷ []) ≡ 256 ∷ 6146 ∷ 512 ∷ 1536 ∷ []
+losses-asked = refl
+
+-- "FULL at 256": over 255 rows and over 256; of a lent list the first test, over 256 rows and over 257
+pub rows-bound : (map (λ n. priceRefusal (some (rowsTo n [])) (drop 1 (newPrice "" 5))) (255 ∷ 256 ∷ [])
+    ++ map (λ n. asNumber (allOf (take 1 (listTests (rowsTo n []))))) (256 ∷ 257 ∷ [])) ≡ 0 ∷ 10 ∷ 1 ∷ 0 ∷ []
+unfolding losing
+rows-bound = refl
+
+-- "district (2, up to 511)"
+pub district-bound : map callPasses (someCall 511 0 0 ∷ someCall 512 0 0 ∷ []) ≡ 1 ∷ 0 ∷ []
+unfolding losing
+district-bound = refl
+
+-- the last one's sums and its line
+pub last-district : lossText (entered (record { district = 511; due = 60000; billed = 0 }) emptyLedger) ≡ ascii "511 1\ntotal 1\n"
+unfolding losing
+last-district = refl
 
 -- ROOM at opening: "64 bytes + 48 a set + 24 a rule"; RANGE first
 pub room-refused : numbersOver (MEMORY - 1) (plain ∷ rooms 8 7 ∷ rooms 9 7 ∷ rooms 7 8 ∷ rooms 7 10 ∷ but 5 0 plain ∷ []) ≡ 4 ∷ 0 ∷ 4 ∷ 0 ∷ 4 ∷ 5 ∷ []
