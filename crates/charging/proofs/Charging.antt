@@ -15,10 +15,10 @@ use Rattle.meaning.specs.Basics.{if_then_else_, allOf, word, quad}
 use Rattle.meaning.specs.Refusals.{CUT, PLAN, ROOM, RANGE, NO-PRICE, LEDGER-FULL}
 use Rattle.meaning.specs.Plan.{Plan}
 use Rattle.meaning.specs.Prices.{PriceRow}
-use Rattle.meaning.specs.Ledger.{UNIT-LIMIT, Ledger, ledgerInRange, isFull, Entry, entered}
+use Rattle.meaning.specs.Ledger.{UNIT-LIMIT, UNITS, Ledger, ledgerInRange, isFull, Entry, entered}
 use Rattle.meaning.specs.Answer.{Answer, refused, answerOf}
 use Rattle.meaning.specs.Answers.{answeredAs}
-use Rattle.meaning.specs.Charges.{CallRecord, callRecordOf, callInRange, pricedOn, dueOn, dueOf, entryWith, numberIn, dueBy, entryOf, takingRefusal, charged, ledgerAfter}
+use Rattle.meaning.specs.Charges.{CallRecord, callRecordOf, callInRange, pricedBy, pricedOn, dueOn, dueOf, entryWith, numberIn, dueBy, entryOf, takingRefusal, charged, ledgerAfter}
 use Rattle.meaning.specs.declared.Answered.{Answered}
 use Rattle.plan.specs.Layout.{planOf}
 use Rattle.plan.specs.State.{soundOf, stateOf}
@@ -28,7 +28,7 @@ use Rattle.prices.proofs.ImageLaws.{prices-some, prices-none}
 use Rattle.ledger.specs.Entries.{entryFor}
 use Rattle.number.specs.Promises.{HoldsAnswer, GivesAnswer}
 use Rattle.number.proofs.Answering.{gives-refused, holds-count, holds-refused}
-use Rattle.charging.specs.Dues.{pricedBy, dueGiven, GivesDue, entryDue, Enters}
+use Rattle.charging.specs.Dues.{dueGiven, GivesDue, entryDue, Enters}
 use Rattle.charging.specs.declared.Due.{Due}
 use Rattle.charging.specs.declared.Due.the-variants.{Units, NoPrice}
 use Rattle.charging.specs.Promises.{lentInRange, Chargeable, HoldsTaken, TakesKnown, Takes}
@@ -45,7 +45,7 @@ module _ (l : Ledger) (e : Entry) (a : Answered) where
 
 -- the fields as they are read
 pub entry-is : (body : List ℕ) {district billed : ℕ} (due : ℕ) → district ≡ word body DISTRICT-AT → billed ≡ quad body BILLED-AT
-    → entryFor district due (billed * 60) ≡ entryDue (callRecordOf body) due
+    → entryFor district due (billed * UNITS) ≡ entryDue (callRecordOf body) due
 unfolding callRecordOf
 entry-is body due e f = rw (e, f)
 

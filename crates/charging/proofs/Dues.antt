@@ -10,12 +10,12 @@ use borrow.Author.Tests.{ne-eqb}
 use Rattle.meaning.specs.Answer.{RESPONDED, FORMATTED}
 use Rattle.meaning.specs.Prices.{PriceRow, PRICE-LIMIT, priceFor}
 use Rattle.meaning.specs.Ledger.{UNIT-LIMIT}
-use Rattle.meaning.specs.Charges.{SECONDS-LIMIT, timesPrice, dueOn}
+use Rattle.meaning.specs.Charges.{SECONDS-LIMIT, pricedBy, timesPrice, dueOn}
 use Rattle.prices.specs.Layout.{rowsIn}
 use Rattle.prices.specs.Promises.{pricedOf, perMinute, GivesPrice}
 use Rattle.prices.specs.declared.Priced.{Priced}
 use Rattle.prices.specs.declared.Priced.the-variants.{PerMinute, NoPrice}
-use Rattle.charging.specs.Dues.{pricedBy, unitsOf, GivesDue}
+use Rattle.charging.specs.Dues.{unitsOf, GivesDue}
 use Rattle.charging.specs.declared.Due.{Due}
 use Rattle.charging.specs.declared.Due.the-variants.{Units, NoPrice as NoDue}
 

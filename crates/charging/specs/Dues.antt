@@ -1,23 +1,17 @@
 -- What the functions on the way to a call record's entry give.
 use Prim.Native.Nat.{ℕ, _*_, _≤_}
 use mathlib.Core.Path.{_≡_}
-use mathlib.Core.List.{List}
 use mathlib.Core.Option.{Option, none, some}
-use lib.Dec.{eqb}
 use Rattle.meaning.specs.Basics.{if_then_else_}
 use Rattle.meaning.specs.Refusals.{LEDGER-FULL}
-use Rattle.meaning.specs.Answer.{RESPONDED, FORMATTED, refused}
+use Rattle.meaning.specs.Answer.{refused}
 use Rattle.meaning.specs.Answers.{answeredAs}
-use Rattle.meaning.specs.Ledger.{UNIT-LIMIT, Ledger, isFull, Entry, entered}
+use Rattle.meaning.specs.Ledger.{UNIT-LIMIT, UNITS, Ledger, isFull, Entry, entered}
 use Rattle.meaning.specs.Charges.{CallRecord}
 use Rattle.meaning.specs.declared.Answered.{Answered}
 use Rattle.ledger.specs.Entries.{entryFor}
 use Rattle.charging.specs.declared.Due.{Due}
 use Rattle.charging.specs.declared.Due.the-variants.{Units, NoPrice}
-
--- the digits that a call is priced on, by its outcome, its incoming and its outgoing digits
-abbrev pub pricedBy : ℕ → List ℕ → List ℕ → Option (List ℕ)
-pricedBy outcome incoming outgoing = if eqb outcome FORMATTED then some outgoing else if eqb outcome RESPONDED then none else some incoming
 
 abbrev pub dueGiven : Due → Option ℕ
 dueGiven (Units n) = some n
@@ -34,7 +28,7 @@ pub record GivesDue (due : Option ℕ) (r : Due) : Type 0 where
 
 -- what a record adds that is due so much
 abbrev pub entryDue : CallRecord → ℕ → Entry
-entryDue c due = entryFor (c .district) due (c .billed * 60)
+entryDue c due = entryFor (c .district) due (c .billed * UNITS)
 
 -- an entry and the answer, or LEDGER FULL
 pub record Enters (l : Ledger) (e : Entry) (a : Answered) (after : Ledger) (r : Answered) : Type 0 where

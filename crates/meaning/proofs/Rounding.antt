@@ -31,11 +31,6 @@ pub cents-near-below : (n : ℕ) → Nearest (suc n) (negℤ (cents (negsuc n)))
 unfolding cents
 cents-near-below n = rw (negℤ-negℤ (pos ((suc n + 30000) / 60000))) (nearest (suc n))
 
--- C-11's example: three accounts of one district that lose 24,000 units each are 1 cent together, where each by itself is none
-pub rounded-once : (cents (pos 72000) ≡ pos 1) × (cents (pos 24000) ≡ pos 0)
-unfolding cents
-rounded-once = (refl, refl)
-
 -- half a cent is 1, and -1 below zero; a unit less is 0 on either side (docs/DECISIONS.md, C-11.4)
 pub halves : (cents (pos 29999) ≡ pos 0) × (cents (pos 30000) ≡ pos 1) × (cents (negsuc 29998) ≡ pos 0) × (cents (negsuc 29999) ≡ negsuc 0)
 unfolding cents

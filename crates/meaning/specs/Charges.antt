@@ -12,7 +12,7 @@ use Rattle.meaning.specs.Settings.{Number, numberOf, numberInRange}
 use Rattle.meaning.specs.Plan.{Plan}
 use Rattle.meaning.specs.Answer.{RESPONDED, FORMATTED, Answer, refused, answerOf, checked}
 use Rattle.meaning.specs.Prices.{PriceRow, priceFor}
-use Rattle.meaning.specs.Ledger.{Ledger, ledgerInRange, isFull, Entry, entered}
+use Rattle.meaning.specs.Ledger.{UNITS, Ledger, ledgerInRange, isFull, Entry, entered}
 
 -- THE RECORD: "account (4 bytes ..), district (2 ..), seconds (4 ..), billed (4, in thousandths of a cent ..), then a number record's body"
 pub record CallRecord : Type 0 where
@@ -45,9 +45,12 @@ callInRange b = allOf (callRanges b)
 
 -- WHAT IT IS DUE
 
--- "Outcome 4 is priced on the outgoing digits; 0, 1 and 3 on the incoming; 2 is due nothing"
+-- "Outcome 4 is priced on the outgoing digits; 0, 1 and 3 on the incoming; 2 is due nothing": by the outcome and the two
+abbrev pub pricedBy : ℕ → List ℕ → List ℕ → Option (List ℕ)
+pricedBy outcome incoming outgoing = if eqb outcome FORMATTED then some outgoing else if eqb outcome RESPONDED then none else some incoming
+
 unfoldable pub pricedOn : Number → Answer → Option (List ℕ)
-pricedOn n a = if eqb (a .outcome) FORMATTED then some (a .digits) else if eqb (a .outcome) RESPONDED then none else some (n .digits)
+pricedOn n a = pricedBy (a .outcome) (n .digits) (a .digits)
 
 -- "due is seconds times price"; none where no row fits
 abbrev pub timesPrice : ℕ → Option ℕ → Option ℕ
@@ -63,8 +66,8 @@ dueOf rs seconds n a = dueOn rs seconds (pricedOn n a)
 
 -- what it adds where it is accepted: its district and its due; "billed is taken times 60"
 abbrev pub entryWith : CallRecord → Option ℕ → Entry
-entryWith c none = record { district = c .district; due = 0; billed = c .billed * 60 }
-entryWith c (some due) = record { district = c .district; due = due; billed = c .billed * 60 }
+entryWith c none = record { district = c .district; due = 0; billed = c .billed * UNITS }
+entryWith c (some due) = record { district = c .district; due = due; billed = c .billed * UNITS }
 
 -- the number of a call record, and its answer
 abbrev pub numberIn : List ℕ → Number

@@ -21,6 +21,10 @@ LEDGER-LIMIT = 10000000
 abbrev pub UNIT-LIMIT : ℕ
 UNIT-LIMIT = 86400000000
 
+-- "billed is taken times 60": the units of a thousandth of a cent
+abbrev pub UNITS : ℕ
+UNITS = 60
+
 -- "it holds count, due and billed for each district and for the whole": three numbers a district, and the whole's
 pub record Ledger : Type 0 where
   pub districts : List ℤ

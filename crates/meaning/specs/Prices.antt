@@ -80,11 +80,13 @@ pricesPass rs = allOf (listTests rs)
 abbrev pub hasPrefix : List ℕ → PriceRow → Bool
 hasPrefix ds r = sameBytes ds (r .prefix)
 
--- "TAKEN for a prefix held, FULL at 256"
+-- the checks of a row in range, over the rows of a list in range: "TAKEN for a prefix held, FULL at 256"
+abbrev pub placeLines : List PriceRow → PriceRow → List Line
+placeLines rs x = (any (hasPrefix (x .prefix)) rs, TAKEN) ∷ (eqb (length rs) PRICE-ROOM, FULL) ∷ []
+
 abbrev pub addPriceLines : Option (List PriceRow) → List ℕ → List Line
 addPriceLines none b = (true, RANGE) ∷ []
-addPriceLines (some rs) b =
-    (not (rowInRange b), RANGE) ∷ (any (hasPrefix (rowGiven b .prefix)) rs, TAKEN) ∷ (eqb (length rs) PRICE-ROOM, FULL) ∷ []
+addPriceLines (some rs) b = (not (rowInRange b), RANGE) ∷ placeLines rs (rowGiven b)
 
 -- the number that it is answered with, for a body of any length: 0 where it is accepted
 unfoldable pub priceRefusal : Option (List PriceRow) → List ℕ → ℕ

@@ -15,7 +15,7 @@ use Rattle.meaning.specs.Basics.{if_then_else_, all, any, isZero, word}
 use Rattle.meaning.specs.Refusals.{CUT, RANGE, TAKEN, FULL, Line, firstOf}
 use Rattle.meaning.specs.Filters.{filterOf}
 use Rattle.meaning.specs.Rules.{inOrder, hasFilter, filterIn}
-use Rattle.meaning.specs.Prices.{PriceRow, rowGiven, rowInRange, rowPasses, rowsInOrder, pricesPass, isBeforeRow, hasPrefix, addPriceLines, priceRefusal, withRow, rowsAfter}
+use Rattle.meaning.specs.Prices.{PriceRow, rowGiven, rowInRange, rowPasses, rowsInOrder, pricesPass, isBeforeRow, hasPrefix, addPriceLines, priceRefusal, placeLines, withRow, rowsAfter}
 use Rattle.meaning.proofs.Tests.{is-true, true-is, is-false, false-is, and-left, and-right, and-both, not-not, passed-at}
 use Rattle.meaning.proofs.RuleLists.{in-order-insert}
 use Rattle.buffer.specs.Slots.{insertAt}
@@ -25,7 +25,7 @@ use Rattle.meaning.specs.declared.FilterPlace.{FilterPlace}
 use Rattle.meaning.specs.declared.FilterPlace.the-variants.{Held, Absent}
 use Rattle.meaning.specs.declared.RulePlace.{RulePlace}
 use Rattle.prices.specs.Layout.{rowImage, pricesImage, rowOf, rowsIn, pricesInRange, pricesOf}
-use Rattle.prices.specs.Edits.{RowSlot, placeLines, PlacesRow}
+use Rattle.prices.specs.Edits.{RowSlot, PlacesRow}
 use Rattle.prices.specs.Promises.{pricesMemory, AddsPrice}
 use Rattle.prices.proofs.RowSlots.{rowFilter, row-back}
 use Rattle.prices.proofs.RowRules.{asRule, as-filter, order-same, held-same, insert-same, AbsentRow, absent-row, held-row}

@@ -2,14 +2,12 @@
 use Prim.Native.Nat.{ℕ, _≤_}
 use mathlib.Core.Path.{_≡_}
 use mathlib.Core.Bool.{true}
-use mathlib.Core.List.{List, [], _∷_}
+use mathlib.Core.List.{List}
 use mathlib.Core.Option.{some}
-use lib.ListN.{length, getElem?}
-use lib.Dec.{eqb}
-use Rattle.meaning.specs.Sizes.{PRICE-ROOM}
-use Rattle.meaning.specs.Basics.{if_then_else_, any, isZero}
-use Rattle.meaning.specs.Refusals.{TAKEN, FULL, Line, firstOf}
-use Rattle.meaning.specs.Prices.{PriceRow, PRICE-LIMIT, priceIn, rowPasses, hasPrefix, withRow}
+use lib.ListN.{getElem?}
+use Rattle.meaning.specs.Basics.{if_then_else_, isZero}
+use Rattle.meaning.specs.Refusals.{firstOf}
+use Rattle.meaning.specs.Prices.{PriceRow, PRICE-LIMIT, priceIn, rowPasses, placeLines, withRow}
 use Rattle.prices.specs.Layout.{rowImage, pricesImage, rowOf, rowsIn}
 
 -- x is the price in the row at place k
@@ -21,10 +19,6 @@ pub record RowPrice (m : List ℕ) (k x : ℕ) : Type 0 where
 pub record RowSlot (s : List ℕ) : Type 0 where
   pub own : s ≡ rowImage (rowOf s)
   pub passes : rowPasses (rowOf s) ≡ true
-
--- the checks of a row in range, over the rows of a list in range
-abbrev pub placeLines : List PriceRow → PriceRow → List Line
-placeLines rs x = (any (hasPrefix (x .prefix)) rs, TAKEN) ∷ (eqb (length rs) PRICE-ROOM, FULL) ∷ []
 
 -- the number answered, and the memory left
 pub record PlacesRow (m : List ℕ) (x : PriceRow) (after : List ℕ) (number : ℕ) : Type 0 where
