@@ -1,19 +1,20 @@
--- The price given is that of the row that C-11 describes, and no other row is so: over any list that passes, for any digits.
+-- The price given is that of the row that C-11 describes, and no other row is so: over any list that passes, for any digits. And what a list holds behind a row that is added.
 use Prim.Native.Nat.{ℕ, _+_, _≤_, _<_}
 use mathlib.Core.Path.{_≡_, refl, ap, sym, subst, _∙_}
 use mathlib.Core.Logic.{_≢_, _⊎_, inl, inr, _↔_}
 use mathlib.Core.Bool.{Bool, true, false, true≢false}
-use mathlib.Core.List.{List, _∷_, map, List·Memᴰ, List·Memᴰ·head, List·Memᴰ·tail}
+use mathlib.Core.List.{List, [], _∷_, map, List·Memᴰ, List·Memᴰ·head, List·Memᴰ·tail}
 use mathlib.Core.Option.{Option, none, some}
 use native.Mathlib.Omega.{arith}
 use lib.ListN.{length, take}
 use lib.Dec.{T, ltb}
-use borrow.Author.Tests.{ltb-true, ltb-false}
+use borrow.Author.Tests.{ltb-true, ltb-false, ne-eqb}
+use Rattle.meaning.specs.Sizes.{PRICE-BODY}
 use Rattle.meaning.specs.Basics.{if_then_else_, all, beginsWith}
 use Rattle.meaning.specs.Filters.{isLt}
 use Rattle.meaning.specs.Rules.{firstLargest}
-use Rattle.meaning.specs.Prices.{PriceRow, rowWeight, rowPlace, priceAt, priceFor, isBeforeRow, rowsInOrder, listTests, pricesPass}
-use Rattle.meaning.specs.Priced.{IsPrice, NoRowFits}
+use Rattle.meaning.specs.Prices.{PriceRow, rowGiven, rowWeight, rowPlace, priceAt, priceFor, isBeforeRow, rowsInOrder, listTests, pricesPass, priceRefusal, withRow, rowsAfter}
+use Rattle.meaning.specs.Priced.{IsPrice, NoRowFits, HoldsAlso, AddsRow}
 use Rattle.meaning.proofs.Tests.{is-true, true-is, and-left, and-right, all-at, all-mem}
 use Rattle.meaning.proofs.ListingOrder.{prefixes}
 use Rattle.meaning.proofs.Largest.{AtMost, Found, first-largest, place-mem}
@@ -34,6 +35,49 @@ one-row (x ∷ xs) t r s (List·Memᴰ·tail m) (List·Memᴰ·head q) e =
     absurd (not-before-self x r (all-mem (isBeforeRow x) xs (and-left (all (isBeforeRow x) xs) (rowsInOrder xs) t) m) (ap (λ (y : PriceRow). y .prefix) (sym q) ∙ sym e))
 one-row (x ∷ xs) t r s (List·Memᴰ·tail m) (List·Memᴰ·tail n) e =
     one-row xs (and-right (all (isBeforeRow x) xs) (rowsInOrder xs) t) r s m n e
+
+-- ONE ROW MORE
+
+-- a row is held afterwards exactly if it is the new one, or was held
+pub row-held : (r : PriceRow) (rs : List PriceRow) → HoldsAlso rs r (withRow r rs)
+row-held r rs s = (to rs, from rs)
+  where
+    later : (x : PriceRow) (rs : List PriceRow) → (s ≡ r) ⊎ List·Memᴰ s rs → (s ≡ r) ⊎ List·Memᴰ s (x ∷ rs)
+    later x rs (inl e) = inl e
+    later x rs (inr m) = inr (List·Memᴰ·tail m)
+
+    to-by : (x : PriceRow) (rs : List PriceRow) (b : Bool) → (List·Memᴰ s (withRow r rs) → (s ≡ r) ⊎ List·Memᴰ s rs)
+        → List·Memᴰ s (if b then r ∷ x ∷ rs else x ∷ withRow r rs) → (s ≡ r) ⊎ List·Memᴰ s (x ∷ rs)
+    to-by x rs true ih (List·Memᴰ·head e) = inl e
+    to-by x rs true ih (List·Memᴰ·tail m) = inr m
+    to-by x rs false ih (List·Memᴰ·head e) = inr (List·Memᴰ·head e)
+    to-by x rs false ih (List·Memᴰ·tail m) = later x rs (ih m)
+
+    to : (rs : List PriceRow) → List·Memᴰ s (withRow r rs) → (s ≡ r) ⊎ List·Memᴰ s rs
+    to [] (List·Memᴰ·head e) = inl e
+    to [] (List·Memᴰ·tail m) = inr m
+    to (x ∷ rs) m = to-by x rs (isBeforeRow r x) (to rs) m
+
+    from-by : (x : PriceRow) (rs : List PriceRow) (b : Bool) → ((s ≡ r) ⊎ List·Memᴰ s rs → List·Memᴰ s (withRow r rs))
+        → (s ≡ r) ⊎ List·Memᴰ s (x ∷ rs) → List·Memᴰ s (if b then r ∷ x ∷ rs else x ∷ withRow r rs)
+    from-by x rs true ih (inl e) = List·Memᴰ·head e
+    from-by x rs true ih (inr m) = List·Memᴰ·tail m
+    from-by x rs false ih (inl e) = List·Memᴰ·tail (ih (inl e))
+    from-by x rs false ih (inr (List·Memᴰ·head e)) = List·Memᴰ·head e
+    from-by x rs false ih (inr (List·Memᴰ·tail m)) = List·Memᴰ·tail (ih (inr m))
+
+    from : (rs : List PriceRow) → (s ≡ r) ⊎ List·Memᴰ s rs → List·Memᴰ s (withRow r rs)
+    from [] (inl e) = List·Memᴰ·head e
+    from [] (inr m) = List·Memᴰ·tail m
+    from (x ∷ rs) h = from-by x rs (isBeforeRow r x) (from rs) h
+
+-- the rows behind a row that is accepted hold it, every old one and no other; behind one that is refused they are as they were
+pub row-added : (rs : List PriceRow) (body : List ℕ) → AddsRow rs body
+unfolding rowsAfter
+row-added rs body = record {
+  accepted = λ e. (withRow (rowGiven (take PRICE-BODY body)) rs, rw e, row-held (rowGiven (take PRICE-BODY body)) rs);
+  refused = λ n. rw (ne-eqb (priceRefusal (some rs) body) 0 n);
+}
 
 -- THE ROW THAT WEIGHS THE MOST
 
