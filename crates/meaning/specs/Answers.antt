@@ -1,4 +1,4 @@
--- Document 01's numbers and values for each case of the answers that the functions give.
+-- Document 01's numbers and values, and C-11's, for each case of the answers that the functions give.
 use Prim.Native.Nat.{ℕ, Ordering, Ordering·lt, Ordering·eq, Ordering·gt}
 use mathlib.Core.Path.{_≡_}
 use mathlib.Core.List.{List, [], _∷_}

@@ -63,7 +63,7 @@ okLine = line ((111 ∷ 107 ∷ []) ∷ [])
 unfoldable pub noLine : ℕ → List ℕ
 noLine n = line ((110 ∷ 111 ∷ []) ∷ decimal n ∷ [])
 
--- "Kinds 0 to 6 write `ok`"
+-- "Kinds 0 to 6 write `ok`", and kind 17 (C-11)
 abbrev pub acceptedLine : ℕ → List ℕ
 acceptedLine zero = okLine
 acceptedLine (suc r) = noLine (suc r)

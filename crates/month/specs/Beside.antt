@@ -48,7 +48,7 @@ FullExactly =
 abbrev pub NothingLost : Type 0
 NothingLost = (size : ℕ) (m : Month) (e : Event) → monthNumber size m e ≢ 0 → monthAfter size m e ≡ m
 
--- and every byte and number lent
+-- and every byte and number lent, but the digit buffer, of which `Takes` speaks
 abbrev pub NothingWritten : Type 0
 NothingWritten = (l between : Lent) (e : Event) (n : ℕ) → Meets l e n between → n ≢ 0 → between ≡ l
 

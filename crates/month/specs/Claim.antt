@@ -26,7 +26,7 @@ LossPromise l d r = lossGiven r ≡ lossRead l d
 abbrev pub TotalPromise : Ledger → LossAnswer → Type 0
 TotalPromise l r = lossGiven r ≡ totalRead l
 
--- due less billed over some records, and its cents: "added exactly and rounded once"
+-- due less billed over some records, added exactly, and its cents, rounded once
 abbrev pub lossOver : List Entry → ℤ
 lossOver es = pos (dues es) -ℤ pos (bills es)
 
