@@ -24,9 +24,9 @@ use Rattle.prices.specs.Promises.{pricesMemory}
 use Rattle.prices.proofs.ImageLaws.{prices-image}
 use Rattle.charging.proofs.Taking.{refused-by, taking-full, taking-accepted}
 use Rattle.month.specs.Entries.{ledgerOver}
-use Rattle.month.specs.Events.{Event, planCall, price, call, Month, monthNumber, Lent, lentOf, Meets, provides, addsPrice, takesCall}
+use Rattle.month.specs.Events.{Event, planCall, price, call, Month, monthNumber, MonthLent, lentOf, Meets, provides, addsPrice, takesCall}
 use Rattle.month.specs.Claim.{monthOver}
-use Rattle.month.specs.Beside.{Chargeable, FullAt, FullExactly, NothingLost, NothingWritten, RoundedOnce}
+use Rattle.month.specs.Beside.{BeforeFull, FullAt, FullExactly, NothingLost, NothingWritten, RoundedOnce}
 use Rattle.month.proofs.Records.{charged-number}
 use Rattle.month.proofs.EveryMonth.{month-behind, few-records}
 
@@ -41,7 +41,7 @@ due-given : (o : Option ℕ) → isSome o ≡ true → (n : ℕ) × (o ≡ some 
 due-given none e = absurd (let z : _≡_ {A = ℕ} 0 1 = cc in omega arith)
 due-given (some n) e = (n, refl)
 
-module _ (size : ℕ) (m : Month) (room : ℕ) (b : List ℕ) (c : Chargeable m room b) (range : ledgerInRange (ledgerOver (m .entries)) ≡ true) where
+module _ (size : ℕ) (m : Month) (room : ℕ) (b : List ℕ) (c : BeforeFull m room b) (range : ledgerInRange (ledgerOver (m .entries)) ≡ true) where
   number-full : LEDGER-LIMIT ≤ length (m .entries) → monthNumber size m (call room b) ≡ LEDGER-FULL
   number-full h =
       let due = due-given (dueBy (c .plan) (c .rows) (take CALL-BYTES b)) (c .priced) in
@@ -88,7 +88,7 @@ pub nothing-written : NothingWritten
 unfolding memoryAfter rowsAfter
 nothing-written l between e n t h = go t h
   where
-    go : {l between : Lent} {e : Event} {n : ℕ} → Meets l e n between → n ≢ 0 → between ≡ l
+    go : {l between : MonthLent} {e : Event} {n : ℕ} → Meets l e n between → n ≢ 0 → between ≡ l
     go (provides {m} {prices = prices} {l} {c} p) h =
         let f = ne-eqb (refusal (lacksBytes (length m)) (stateOf m) c) 0 (λ z. h (p .number-is ∙ z)) in
         let same : memoryAfter c m ≡ m = rw f in

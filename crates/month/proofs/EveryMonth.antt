@@ -15,14 +15,14 @@ use Rattle.meaning.specs.declared.Totals.{Totals}
 use Rattle.meaning.proofs.Ledgers.{whole-natural, sums-fit, empty-in-range}
 use Rattle.changes.specs.Promise.{Chain, done, next}
 use Rattle.month.specs.Entries.{dues, bills, ofDistrict, totalsOver, ledgerOver}
-use Rattle.month.specs.Events.{Event, planCalls, planNumbers, Lent, provides, addsPrice, takesCall, Events, done as no-event, next as and-then}
+use Rattle.month.specs.Events.{Event, planCalls, planNumbers, MonthLent, provides, addsPrice, takesCall, Events, done as no-event, next as and-then}
 use Rattle.month.specs.Claim.{lossesOver, monthBefore, monthOver, Stands, EveryMonth}
 use Rattle.month.proofs.Sums.{ledger-none, ledger-at, ledger-whole}
 use Rattle.month.proofs.Steps.{Behind, events-behind}
 
 -- THE PLAN'S OWN CALLS
 
-plan-chain : {l behind : Lent} {es : List Event} {numbers : List ℕ} → Events l es numbers behind → Chain (l .plan) (planCalls es) (planNumbers es numbers) (behind .plan)
+plan-chain : {l behind : MonthLent} {es : List Event} {numbers : List ℕ} → Events l es numbers behind → Chain (l .plan) (planCalls es) (planNumbers es numbers) (behind .plan)
 plan-chain no-event = done
 plan-chain (and-then (provides p) ts) = next p (plan-chain ts)
 plan-chain (and-then (addsPrice a) ts) = plan-chain ts
@@ -30,15 +30,15 @@ plan-chain (and-then (takesCall t) ts) = plan-chain ts
 
 -- A LIST IN TWO PARTS
 
-pub record Parts (before : Lent) (front back : List Event) (numbers : List ℕ) (behind : Lent) : Type 0 where
+pub record Parts (before : MonthLent) (front back : List Event) (numbers : List ℕ) (behind : MonthLent) : Type 0 where
   pub first : List ℕ
   pub rest : List ℕ
-  pub between : Lent
+  pub between : MonthLent
   pub numbers-are : numbers ≡ first ++ rest
   pub front-met : Events before front first between
   pub back-met : Events between back rest behind
 
-pub events-parts : {l behind : Lent} {numbers : List ℕ} (front back : List Event) → Events l (front ++ back) numbers behind → Parts l front back numbers behind
+pub events-parts : {l behind : MonthLent} {numbers : List ℕ} (front back : List Event) → Events l (front ++ back) numbers behind → Parts l front back numbers behind
 events-parts {l} {behind} {numbers} [] back ts = record { first = []; rest = numbers; between = l; numbers-are = refl; front-met = no-event; back-met = ts }
 events-parts (e ∷ front) back (and-then {n = n} t ts) =
     let p = events-parts front back ts in
@@ -53,7 +53,7 @@ events-parts (e ∷ front) back (and-then {n = n} t ts) =
 
 -- FROM AN EMPTY LEDGER
 
-module _ (before behind : Lent) (es : List Event) (numbers : List ℕ) (empty : before .ledger ≡ emptyLedger) (ts : Events before es numbers behind) where
+module _ (before behind : MonthLent) (es : List Event) (numbers : List ℕ) (empty : before .ledger ≡ emptyLedger) (ts : Events before es numbers behind) where
   pub month-behind : Behind (length (before .plan)) (monthBefore before) es numbers behind
   month-behind =
       events-behind (length (before .plan)) (monthBefore before)

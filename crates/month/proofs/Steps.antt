@@ -20,11 +20,11 @@ use Rattle.prices.proofs.ImageLaws.{prices-image}
 use Rattle.prices.proofs.Adding.{rows-adds}
 use Rattle.charging.specs.Promises.{Takes}
 use Rattle.month.specs.Entries.{ledgerOver}
-use Rattle.month.specs.Events.{Event, planCall, price, call, Month, monthNumber, monthAfter, monthFrom, monthNumbers, Lent, lentOf, Meets, provides, addsPrice, takesCall, Events, done, next}
+use Rattle.month.specs.Events.{Event, planCall, price, call, Month, monthNumber, monthAfter, monthFrom, monthNumbers, MonthLent, lentOf, Meets, provides, addsPrice, takesCall, Events, done, next}
 use Rattle.month.proofs.Records.{PassIf, charged-number, ledger-behind, behind-in-range}
 
 -- what is lent holds a month, over a plan memory of `size` bytes
-pub record Holds (size : ℕ) (m : Month) (l : Lent) : Type 0 where
+pub record Holds (size : ℕ) (m : Month) (l : MonthLent) : Type 0 where
   pub plan-is : stateOf (l .plan) ≡ m .plan
   pub rows-are : pricesOf (l .prices) ≡ m .rows
   pub ledger-is : l .ledger ≡ ledgerOver (m .entries)
@@ -36,7 +36,7 @@ pass-if : (prices : List ℕ) (o : Option (List PriceRow)) → pricesOf prices �
 pass-if prices none e = tt
 pass-if prices (some rs) e = prices-image prices rs e .1
 
-pub record Step (size : ℕ) (m : Month) (e : Event) (n : ℕ) (between : Lent) : Type 0 where
+pub record Step (size : ℕ) (m : Month) (e : Event) (n : ℕ) (between : MonthLent) : Type 0 where
   pub number-is : n ≡ monthNumber size m e
   pub holds : Holds size (monthAfter size m e) between
 
@@ -87,18 +87,18 @@ module _ (size : ℕ) (m : Month) where
         };
       }
 
-  pub one-event : {l between : Lent} {e : Event} {n : ℕ} → Holds size m l → Meets l e n between → Step size m e n between
+  pub one-event : {l between : MonthLent} {e : Event} {n : ℕ} → Holds size m l → Meets l e n between → Step size m e n between
   one-event h (provides p) = plan-step h p
   one-event h (addsPrice a) = price-step h a
   one-event h (takesCall t) = call-step h t
 
 -- A LIST OF EVENTS
 
-pub record Behind (size : ℕ) (m : Month) (es : List Event) (numbers : List ℕ) (behind : Lent) : Type 0 where
+pub record Behind (size : ℕ) (m : Month) (es : List Event) (numbers : List ℕ) (behind : MonthLent) : Type 0 where
   pub numbers-are : numbers ≡ monthNumbers size m es
   pub holds : Holds size (monthFrom size m es) behind
 
-pub events-behind : {l behind : Lent} {es : List Event} {numbers : List ℕ} (size : ℕ) (m : Month) → Holds size m l → Events l es numbers behind → Behind size m es numbers behind
+pub events-behind : {l behind : MonthLent} {es : List Event} {numbers : List ℕ} (size : ℕ) (m : Month) → Holds size m l → Events l es numbers behind → Behind size m es numbers behind
 events-behind size m h done = record { numbers-are = refl; holds = h }
 events-behind size m h (next {e = e} {es} t ts) =
     let s = one-event size m h t in

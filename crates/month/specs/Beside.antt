@@ -16,13 +16,13 @@ use Rattle.meaning.specs.Answer.{answerOf}
 use Rattle.meaning.specs.Ledger.{LEDGER-LIMIT, emptyLedger, Entry}
 use Rattle.meaning.specs.Charges.{callInRange, numberIn, dueBy}
 use Rattle.month.specs.Entries.{ofDistrict}
-use Rattle.month.specs.Events.{Event, call, Month, monthNumber, monthAfter, Lent, Meets, Events}
+use Rattle.month.specs.Events.{Event, call, Month, monthNumber, monthAfter, MonthLent, Meets, Events}
 use Rattle.month.specs.Claim.{lossesOver, monthOver}
 
 -- LEDGER FULL
 
--- a call record that no check before it refuses, by the plan and the rows of a month
-pub record Chargeable (m : Month) (room : ℕ) (b : List ℕ) : Type 0 where
+-- a call record that no check before LEDGER FULL refuses, by the plan and the rows of a month
+pub record BeforeFull (m : Month) (room : ℕ) (b : List ℕ) : Type 0 where
   pub plan : Plan
   pub rows : List PriceRow
   pub plan-is : m .plan ≡ some plan
@@ -41,8 +41,8 @@ pub record FullAt (size : ℕ) (m : Month) (e : Event) : Type 0 where
 
 abbrev pub FullExactly : Type 0
 FullExactly =
-    (before behind : Lent) (es : List Event) (numbers : List ℕ) → before .ledger ≡ emptyLedger → Events before es numbers behind
-    → (room : ℕ) (b : List ℕ) → Chargeable (monthOver before es) room b → FullAt (length (before .plan)) (monthOver before es) (call room b)
+    (before behind : MonthLent) (es : List Event) (numbers : List ℕ) → before .ledger ≡ emptyLedger → Events before es numbers behind
+    → (room : ℕ) (b : List ℕ) → BeforeFull (monthOver before es) room b → FullAt (length (before .plan)) (monthOver before es) (call room b)
 
 -- "None changes a sum": a refused event leaves the plan, the rows and the records
 abbrev pub NothingLost : Type 0
@@ -50,7 +50,7 @@ NothingLost = (size : ℕ) (m : Month) (e : Event) → monthNumber size m e ≢ 
 
 -- and every byte and number lent, but the digit buffer, of which `Takes` speaks
 abbrev pub NothingWritten : Type 0
-NothingWritten = (l between : Lent) (e : Event) (n : ℕ) → Meets l e n between → n ≢ 0 → between ≡ l
+NothingWritten = (l between : MonthLent) (e : Event) (n : ℕ) → Meets l e n between → n ≢ 0 → between ≡ l
 
 -- "Only the printed line rounds, once": three records of a district, none of them a cent's half, are more than a cent
 

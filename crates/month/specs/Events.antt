@@ -76,23 +76,23 @@ planNumbers (call room b ∷ es) (n ∷ ns) = planNumbers es ns
 
 -- BY THE PROMISES
 
--- what is lent to the calls
-pub record Lent : Type 0 where
+-- what is lent to the calls of a month
+pub record MonthLent : Type 0 where
   pub plan : List ℕ
   pub prices : List ℕ
   pub ledger : Ledger
 
-abbrev pub lentOf : List ℕ → List ℕ → Ledger → Lent
+abbrev pub lentOf : List ℕ → List ℕ → Ledger → MonthLent
 lentOf plan prices ledger = record { plan = plan; prices = prices; ledger = ledger }
 
 -- one call, its number, and what it leaves; what is not lent to it stays
-pub data Meets : Lent → Event → ℕ → Lent → Type 0 where
+pub data Meets : MonthLent → Event → ℕ → MonthLent → Type 0 where
   provides : {m left prices : List ℕ} {l : Ledger} {c : Call} {n : ℕ} → Provides c m left n → Meets (lentOf m prices l) (planCall c) n (lentOf left prices l)
   addsPrice : {m prices left b : List ℕ} {l : Ledger} {n : ℕ} → AddsPrice prices b left n → Meets (lentOf m prices l) (price b) n (lentOf m left l)
   takesCall : {m prices b out left : List ℕ} {l behind : Ledger} {r : Answered} → Takes m prices l b out behind left r
       → Meets (lentOf m prices l) (call (length out) b) (r .refusal) (lentOf m prices behind)
 
 -- "from an empty ledger that nobody else writes": each call gets what the last one left
-pub data Events : Lent → List Event → List ℕ → Lent → Type 0 where
-  done : {l : Lent} → Events l [] [] l
-  next : {l between behind : Lent} {e : Event} {es : List Event} {n : ℕ} {ns : List ℕ} → Meets l e n between → Events between es ns behind → Events l (e ∷ es) (n ∷ ns) behind
+pub data Events : MonthLent → List Event → List ℕ → MonthLent → Type 0 where
+  done : {l : MonthLent} → Events l [] [] l
+  next : {l between behind : MonthLent} {e : Event} {es : List Event} {n : ℕ} {ns : List ℕ} → Meets l e n between → Events between es ns behind → Events l (e ∷ es) (n ∷ ns) behind
