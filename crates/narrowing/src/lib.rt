@@ -2,6 +2,7 @@
 ghost use mathlib.Core.Path.{_≡_};
 ghost use mathlib.Core.Bool.{true};
 ghost use Prim.Native.Nat.{_≤_};
+ghost use Rattle.meaning.specs.Sizes.{CLASS-AT};
 ghost use Rattle.meaning.specs.Rules.{chosenPlace, inOrder};
 ghost use Rattle.meaning.specs.Answers.{placeChosen};
 ghost use Rattle.filter.specs.Slots.{RuleArea, rulesOf};
@@ -63,16 +64,23 @@ fn weigh_length(len: u8, j: usize, n: usize) -> usize
     0
 }
 
-// The rule for a number among the first `count` slots, which are in listing order. The slots from lo to hi are those of the number's class
-// whose prefix begins with its first j digits, but for those already weighed.
-pub fn choose(rules: &[u8], count: usize, class: u8, digits: &[u8]) -> Chosen
+// The same as `choose`, where the places of the number's class are known: from `from` to before `to`. Of `count` and `class` the promise alone
+// speaks. The slots from lo to hi are those of that class whose prefix begins with the number's first j digits, but for those already weighed.
+pub fn choose_among(
+    rules: &[u8],
+    count: usize,
+    class: u8,
+    from: usize,
+    to: usize,
+    digits: &[u8],
+) -> Chosen
     requires { ⌜ RuleArea count (now rules) ⌝ }
     requires { ⌜ inOrder (rulesOf count (now rules)) ≡ true ⌝ }
+    requires { ⌜ Narrowed (now rules) 0 count CLASS-AT class from to ⌝ }
     ensures { λ r. ⌜ placeChosen r ≡ chosenPlace class (now (digits .entry)) (rulesOf count (now (rules .entry))) ⌝ }
 {
-    let p = narrow(rules, 0, count, CLASS_AT, buffer::wide(class));
-    let mut lo = p.lo;
-    let mut hi = p.hi;
+    let mut lo = from;
+    let mut hi = to;
     let mut best = Chosen::NoRule;
     let mut most: usize = 0;
     let mut j: usize = 0;
@@ -96,4 +104,14 @@ pub fn choose(rules: &[u8], count: usize, class: u8, digits: &[u8]) -> Chosen
         }
     }
     best
+}
+
+// The rule for a number among the first `count` slots, which are in listing order.
+pub fn choose(rules: &[u8], count: usize, class: u8, digits: &[u8]) -> Chosen
+    requires { ⌜ RuleArea count (now rules) ⌝ }
+    requires { ⌜ inOrder (rulesOf count (now rules)) ≡ true ⌝ }
+    ensures { λ r. ⌜ placeChosen r ≡ chosenPlace class (now (digits .entry)) (rulesOf count (now (rules .entry))) ⌝ }
+{
+    let p = narrow(rules, 0, count, CLASS_AT, buffer::wide(class));
+    choose_among(rules, count, class, p.lo, p.hi, digits)
 }

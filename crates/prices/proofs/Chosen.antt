@@ -8,23 +8,27 @@ use native.Mathlib.Omega.{arith}
 use lib.ListN.{length, take, drop, getD, getElem?, length-map, List·getD-map}
 use lib.Seq.{drop-drop, getD-take, getD-drop}
 use lib.Dec.{T, lit<}
-use Rattle.meaning.specs.Sizes.{RULE-WIDTH, ROWS-AT, PRICE-AT}
-use Rattle.meaning.specs.Basics.{word, quad}
+use Rattle.meaning.specs.Sizes.{CLASS-AT, RULE-WIDTH, ROWS-AT, PRICE-AT}
+use Rattle.meaning.specs.Basics.{all, word, quad}
+use Rattle.meaning.specs.Filters.{filterOf}
 use Rattle.meaning.specs.Rules.{chosenPlace, inOrder}
 use Rattle.meaning.specs.Prices.{PriceRow, PRICE-LIMIT, rowPasses, rowPlace, priceIn, priceAt, priceFor}
 use Rattle.meaning.proofs.Tests.{all-place}
 use Rattle.buffer.specs.Slots.{slots}
-use Rattle.buffer.proofs.SlotLaws.{slot-at}
+use Rattle.buffer.proofs.SlotLaws.{length-slots, slot-at}
 use Rattle.buffer.proofs.ListLaws.{rest-is, element-at}
 use Rattle.filter.specs.Slots.{RuleArea, rulesOf}
 use Rattle.filter.proofs.RuleLaws.{chosen-within}
-use Rattle.prices.specs.Layout.{rowOf, rowsIn}
+use Rattle.examiner.proofs.Held.{images-pass}
+use Rattle.narrowing.specs.Columns.{Narrowed}
+use Rattle.prices.specs.Layout.{rowImage, rowOf, rowsIn}
+use Rattle.prices.specs.Examined.{rowTest}
 use Rattle.prices.specs.Edits.{RowPrice}
 use Rattle.prices.specs.Promises.{GivesPrice}
 use Rattle.prices.specs.declared.Priced.the-variants.{PerMinute, NoPrice}
-use Rattle.prices.proofs.RowSlots.{price-small}
+use Rattle.prices.proofs.RowSlots.{price-small, image-passes, slot-filter}
 use Rattle.prices.proofs.RowRules.{asRule, chosen-same}
-use Rattle.prices.proofs.ImageLaws.{InRange, rules-are, rules-order, area-is}
+use Rattle.prices.proofs.ImageLaws.{InRange, slots-are, rules-are, rules-order, area-is}
 
 -- THE PRICE IN A SLOT
 
@@ -61,6 +65,20 @@ module _ (m : List ℕ) (r : InRange m) where
         let small : row .price ≤ PRICE-LIMIT = price-small row passes in
         record { is = ap priceIn row-at ∙ ap some (sym is); small = rw is small }
 
+  -- a row's slot has 0 where a rule has its class
+  class-zero : (k : ℕ) → k < word m 0 → getD (drop ROWS-AT m) (RULE-WIDTH * k + CLASS-AT) 0 ≡ 0
+  unfolding filterOf
+  class-zero k inside =
+      let area : List ℕ = drop ROWS-AT m in
+      let s : List ℕ = take RULE-WIDTH (drop (RULE-WIDTH * k) area) in
+      let pass : T (all rowTest (slots RULE-WIDTH (word m 0) area)) =
+      rw (slots-are m r) (images-pass RULE-WIDTH rowOf rowImage rowTest rowPasses image-passes (rowsIn m) (r .passes .rows)) in
+      let t : T (rowTest s) =
+      rw (slot-at RULE-WIDTH k (word m 0) area inside) at (all-place rowTest (slots RULE-WIDTH (word m 0) area) [] k pass (rw (length-slots RULE-WIDTH (word m 0) area) inside)) in
+      let byte : getD s CLASS-AT 0 ≡ getD area (RULE-WIDTH * k + CLASS-AT) 0 =
+      getD-take RULE-WIDTH (drop (RULE-WIDTH * k) area) CLASS-AT 0 (lit< tt) ∙ getD-drop (RULE-WIDTH * k) area CLASS-AT 0 in
+      sym byte ∙ ap (λ f. f .class) (slot-filter s t)
+
   -- THE ROW CHOSEN: n is the count as read, and the slots are lent to the end
 
   module _ (n : ℕ) (n-is : n ≡ word m 0) where
@@ -69,6 +87,18 @@ module _ (m : List ℕ) (r : InRange m) where
 
     pub lent-order : inOrder (rulesOf n (take (length m - ROWS-AT) (drop ROWS-AT m))) ≡ true
     lent-order = rw (n-is, rest-is ROWS-AT m) (rules-order m r)
+
+    -- every row is of class 0
+    pub lent-classes : Narrowed (take (length m - ROWS-AT) (drop ROWS-AT m)) 0 n CLASS-AT 0 0 n
+    lent-classes =
+        rw (n-is, rest-is ROWS-AT m)
+        (record {
+          start = record { low = zero-le; high = zero-le; before = λ h. absurd (omega (arith, h)); behind = λ h. zero-le };
+          end = record { low = zero-le; high = omega arith; before = λ h. omega (arith, last h); behind = λ h. absurd (omega (arith, h)) };
+        })
+      where
+        last : 0 < word m 0 → getD (drop ROWS-AT m) (RULE-WIDTH * (word m 0 - 1) + CLASS-AT) 0 ≡ 0
+        last h = class-zero (word m 0 - 1) (omega (arith, h))
 
     pub lent-rules : rulesOf n (take (length m - ROWS-AT) (drop ROWS-AT m)) ≡ map asRule (rowsIn m)
     lent-rules = ap₂ rulesOf n-is (rest-is ROWS-AT m) ∙ rules-are m r

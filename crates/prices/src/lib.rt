@@ -147,7 +147,7 @@ pub fn price_for(prices: &[u8], digits: &[u8]) -> Priced
     ensures { λ r. ⌜ GivesPrice (now (prices .entry)) (now (digits .entry)) r ⌝ }
 {
     let count = buffer::word(prices, 0);
-    match narrowing::choose(&prices[ROWS_AT..], count, 0, digits) {
+    match narrowing::choose_among(&prices[ROWS_AT..], count, 0, 0, count, digits) {
         Chosen::At(place) => Priced::PerMinute(price_at(prices, place)),
         Chosen::NoRule => Priced::NoPrice,
     }

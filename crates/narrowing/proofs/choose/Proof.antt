@@ -1,95 +1,12 @@
--- The places left hold every rule that may still weigh more than the best so far; places are left, or digits.
-use Prim.Native.Nat.{_+_, _-_}
-use mathlib.Core.Path.{refl, sym, _∙_}
-use mathlib.Core.Logic.{⊎-elim}
-use native.Mathlib.Omega.{arith}
-use Rattle.meaning.specs.Answers.{placeChosen}
-use Rattle.narrowing.proofs.Narrowing.{Reached, class-reached, none-left, own-better, own-worse, below-16, number-ends, digit-reached}
+-- The places handed on are those of the number's class.
 use borrow.Author.Needs.{needs}
 use Rattle.narrowing.proofs.choose.Statement.{statement}
 use Rattle.narrowing.proofs.choose.Tie as tie
 
-abbrev Inv-loop : tie.InvT-loop
-Inv-loop rules count class digits lo₀ hi₀ best₀ most₀ j₀ lo hi best most j = Reached rules count class digits (placeChosen best) most j lo hi
-
-abbrev μ-loop : tie.MeasureT-loop
-μ-loop rules count class digits lo₀ hi₀ best₀ most₀ j₀ lo hi best most j = hi - lo + (16 - j)
-
-loop-holds : tie.Need-loop-holds Inv-loop μ-loop
-loop-holds c =
+choose-among-requires : tie.Need-choose-among-requires
+choose-among-requires c κs =
     let g = c .before .before .before .before in
-    class-reached (g .pre .0) (g .pre .1) (c .before .wide .ensures .is) (c .narrow .ensures)
-
-loop-again : tie.Need-loop-again Inv-loop μ-loop
-loop-again c =
-    let g = c .before .before .before .before .before .before .before .before .before .before .before .before in
-    let l = c .before .before .before .before .before .before .before .loop in
-    let t = c .before .before .before .before .before .before .loop-test .taken in
-    let e = sym (c .before .before .before .before .wide2 .ensures .is) ∙ c .before .before .before .if1 .taken in
-    ⊎-elim
-    (λ w. rw (w .1, w .2) (own-better (g .pre .0) (g .pre .1) (l .inv) t e refl (c .before .weigh-length .ensures) (w .0 .taken)))
-    (λ w. rw (w .1, w .2) (own-worse (g .pre .0) (g .pre .1) (l .inv) t e refl (c .before .weigh-length .ensures) (w .0 .left)))
-    (c .if2 .came)
-
-returns : tie.Need-returns Inv-loop μ-loop
-returns c =
-    let g = c .before .before .before .before .before .before .before .before .before .before in
-    let l = c .before .before .before .before .before .loop in
-    sym (number-ends (g .pre .0) (g .pre .1) (l .inv) (c .before .before .before .before .loop-test .taken)
-    (λ e. c .before .if1 .left (c .before .before .wide2 .ensures .is ∙ e)) (c .if3 .taken))
-
-loop-less-2 : tie.Need-loop-less-2 Inv-loop μ-loop
-loop-less-2 c =
-    let g = c .before .before .before .before .before .before .before .before .before .before .before .before .before in
-    let l = c .before .before .before .before .before .before .before .before .loop in
-    let n = c .narrow2 .ensures in
-    omega (
-      arith,
-      n .start .low,
-      n .end .high,
-      below-16 (g .pre .0) (g .pre .1) (l .inv) (c .before .before .before .before .before .before .before .loop-test .taken)
-          (λ e. c .before .before .before .before .if1 .left (c .before .before .before .before .before .wide2 .ensures .is ∙ e)),
-    )
-
-loop-again-2 : tie.Need-loop-again-2 Inv-loop μ-loop
-loop-again-2 c =
-    let g = c .before .before .before .before .before .before .before .before .before .before .before .before .before in
-    let l = c .before .before .before .before .before .before .before .before .loop in
-    digit-reached (g .pre .0) (g .pre .1) (l .inv) (c .before .before .before .before .before .before .before .loop-test .taken)
-    (λ e. c .before .before .before .before .if1 .left (c .before .before .before .before .before .wide2 .ensures .is ∙ e)) (c .before .before .before .if3 .left) (c .before .wide3 .ensures .is) (c .narrow2 .ensures)
-
-returns-2 : tie.Need-returns-2 Inv-loop μ-loop
-returns-2 c =
-    let g = c .before .before .before .before .before .before in
-    let l = c .before .loop in
-    sym (none-left (g .pre .0) (g .pre .1) (l .inv) (c .loop-test .left))
+    (g .pre .0, (g .pre .1, rw (c .before .wide .ensures .is) at (c .narrow .ensures)))
 
 pub choose-spec : {M : Type 1} → statement M
-choose-spec =
-    tie.close
-    (tie.spec
-    Inv-loop
-    μ-loop
-    (λ c κs. search needs)
-    (λ c κs. search needs)
-    loop-holds
-    (λ c. search needs)
-    (λ c. search needs)
-    (λ c. search needs)
-    (λ c κs. search needs)
-    (λ c. search needs)
-    (λ c. search needs)
-    (λ c κs. search needs)
-    (λ c. search needs)
-    (λ c. search needs)
-    (λ c. search needs)
-    loop-again
-    returns
-    (λ c. search needs)
-    (λ c. search needs)
-    (λ c κs. search needs)
-    (λ c κs. search needs)
-    (λ c. search needs)
-    loop-less-2
-    loop-again-2
-    returns-2)
+choose-spec = tie.close (tie.spec (λ c κs. search needs) (λ c κs. search needs) choose-among-requires (λ c. search needs))
