@@ -14,6 +14,7 @@ use Rattle.meaning.specs.Ledger.{Ledger, ledgerOf, totalsAt, ledgerInRange, los
 use Rattle.meaning.specs.Records.{decimal, signedDecimal, line, lossLine, totalLine}
 use Rattle.meaning.specs.declared.Totals.{Totals}
 use Rattle.meaning.specs.declared.Loss.{Loss}
+use Rattle.meaning.proofs.Tests.{true-is}
 use Rattle.ledger.specs.Losses.{Sized, nextFrom}
 use Rattle.ledger.proofs.Losses.{loss-sized, sized-fits}
 use Rattle.text.specs.Writes.{Writes, Printable}
@@ -74,16 +75,20 @@ module _ (l : Ledger) where
   next-line {out} {left} {r} lines d few is h w last next =
       let all : lines + (DISTRICTS - lines) ≡ DISTRICTS = omega (arith, few) in
       let part : lossPart l lines ≡ partBefore (d + 1) (lossLine d (totalsAt (l .districts) d)) = rw is (part-is lines (DISTRICTS - lines) .0 (omega (arith, all, is, h))) in
-      record { line = named (ap (λ (x : Part). x .text) (sym part)) w; next-is = rw (last, next) (ap (λ (x : Part). x .next) (sym part)) }
+      record {
+        line = named (ap (λ (x : Part). x .text) (sym part)) w;
+        next-is = rw (last, next) (ap (λ (x : Part). x .next) (sym part));
+        none-behind = λ h. absurd (true-is false (sym last ∙ h));
+      }
 
-  last-part : {out left : List ℕ} {r : Reported} (lines : ℕ) → lossPart l lines ≡ lastPart (totalLine (l .whole)) → Writes (totalLine (l .whole)) out left (r .written) → r .last ≡ true → LossPromise l lines out left r
-  last-part lines part w last = record { line = named (ap (λ (x : Part). x .text) (sym part)) w; next-is = rw last (ap (λ (x : Part). x .next) (sym part)) }
+  last-part : {out left : List ℕ} {r : Reported} (lines : ℕ) → lossPart l lines ≡ lastPart (totalLine (l .whole)) → Writes (totalLine (l .whole)) out left (r .written) → r .last ≡ true → r .next ≡ 0 → LossPromise l lines out left r
+  last-part lines part w last next = record { line = named (ap (λ (x : Part). x .text) (sym part)) w; next-is = rw last (ap (λ (x : Part). x .next) (sym part)); none-behind = λ h. next }
 
   pub none-left : {out left : List ℕ} {r : Reported} (lines d : ℕ) → lines < DISTRICTS → d ≡ nextFrom (l .districts) lines (DISTRICTS - lines) → DISTRICTS ≤ d
-      → Writes (totalLine (l .whole)) out left (r .written) → r .last ≡ true → LossPromise l lines out left r
-  none-left lines d few is h w last =
+      → Writes (totalLine (l .whole)) out left (r .written) → r .last ≡ true → r .next ≡ 0 → LossPromise l lines out left r
+  none-left lines d few is h w last next =
       let all : lines + (DISTRICTS - lines) ≡ DISTRICTS = omega (arith, few) in
-      last-part lines (part-is lines (DISTRICTS - lines) .1 (omega (arith, all, is, h))) w last
+      last-part lines (part-is lines (DISTRICTS - lines) .1 (omega (arith, all, is, h))) w last next
 
-  pub all-counted : {out left : List ℕ} {r : Reported} (lines : ℕ) → DISTRICTS ≤ lines → Writes (totalLine (l .whole)) out left (r .written) → r .last ≡ true → LossPromise l lines out left r
-  all-counted lines h w last = let none-more : DISTRICTS - lines ≡ 0 = omega (arith, h) in last-part lines (rw none-more) w last
+  pub all-counted : {out left : List ℕ} {r : Reported} (lines : ℕ) → DISTRICTS ≤ lines → Writes (totalLine (l .whole)) out left (r .written) → r .last ≡ true → r .next ≡ 0 → LossPromise l lines out left r
+  all-counted lines h w last next = let none-more : DISTRICTS - lines ≡ 0 = omega (arith, h) in last-part lines (rw none-more) w last next

@@ -1,24 +1,22 @@
-// The lines of C-11's records: a call, a row of the price list, the losses.
+// The lines of numbers and of C-11's records: a number, alone or in a call record, a row of the price list, the losses.
 ghost use mathlib.Core.Path.{_≡_};
 ghost use mathlib.Core.Bool.{true};
 ghost use Prim.Native.Nat.{_≤_, _<_};
 ghost use lib.ListN.{length};
-ghost use Rattle.meaning.specs.Sizes.{CALL-BYTES, PRICE-BODY, DISTRICTS};
+ghost use Rattle.meaning.specs.Sizes.{PRICE-BODY, DISTRICTS};
 ghost use Rattle.meaning.specs.Ledger.{ledgerOf, totalsAt, ledgerInRange};
-ghost use Rattle.meaning.specs.Records.{lossLine, totalLine};
-ghost use Rattle.blocks.specs.Places.{maskTable};
-ghost use Rattle.plan.specs.State.{soundOf, stateOf};
+ghost use Rattle.meaning.specs.Records.{noLine, lossLine, totalLine};
+ghost use Rattle.plan.specs.State.{stateOf};
+ghost use Rattle.number.specs.Answering.{Known};
 ghost use Rattle.prices.specs.Layout.{rowsIn, pricesInRange};
-ghost use Rattle.charging.specs.Promises.{Chargeable};
 ghost use Rattle.text.specs.Writes.{LONGEST, Writes};
-ghost use Rattle.billing.specs.Lines.{ChargePromise, PricePromise, LossPromise};
+ghost use Rattle.billing.specs.Lines.{AnsweredPromise, OfRecord, PricePromise, LossPromise};
 use meaning::Totals;
-use meaning::refusals::PLAN;
-use meaning::refusals::RANGE;
+use meaning::refusals::ACCEPTED;
 use meaning::sizes::DISTRICTS;
 use meaning::sizes::LEDGER_NUMBERS;
 
-// A line of a call record: how many bytes it has, and the whole's totals behind it.
+// A line of a number, alone or in a call record: how many bytes it has, and the whole's totals behind it.
 pub struct Entered {
     pub written: usize,
     pub whole: Totals,
@@ -31,61 +29,58 @@ pub struct Reported {
     pub next: u16,
 }
 
-// A CALL RECORD
+// A NUMBER, AND A CALL RECORD
 
-// The line of a call record in range, over a plan that is known to be sound.
-fn charge_line(
+// The line of a refusal: the whole's totals stay.
+pub fn refused_line(number: u8, whole: Totals, output: &mut [u8]) -> Entered
+    requires { ⌜ LONGEST ≤ length (now output) ⌝ }
+    ensures { λ r. ⌜ Writes (noLine number) (now (output .entry)) (now (output .exit)) (r .written) × (r .whole ≡ whole) ⌝ }
+{
+    let written = text::no_line(number, output);
+    Entered {
+        written: written,
+        whole: whole,
+    }
+}
+
+// The line of a number in range, over a plan that is known to be sound. A call record is charged before it has its line.
+pub fn answered_line(
     plan: &[u8],
     prices: &[u8],
     districts: &mut [i64; LEDGER_NUMBERS],
     whole: Totals,
+    call: bool,
     body: &[u8],
+    number: &[u8],
     output: &mut [u8],
 ) -> Entered
-    requires { ⌜ Chargeable (now plan) (now prices) (ledgerOf (now districts) whole) (now body) × (LONGEST ≤ length (now output)) ⌝ }
-    ensures { λ r. ⌜ ChargePromise (stateOf (now (plan .entry))) (rowsIn (now (prices .entry))) (ledgerOf (now (districts .entry)) whole) (now (body .entry)) (now (output .entry)) (ledgerOf (now (districts .exit)) (r .whole)) (now (output .exit)) (r .written) ⌝ }
+    requires { ⌜ Known (now plan) (now number) × OfRecord call (now plan) (now prices) (ledgerOf (now districts) whole) (now body) (now number) × (LONGEST ≤ length (now output)) ⌝ }
+    ensures { λ r. ⌜ AnsweredPromise call (stateOf (now (plan .entry))) (rowsIn (now (prices .entry))) (ledgerOf (now (districts .entry)) whole) (now (body .entry)) (now (output .entry)) (ledgerOf (now (districts .exit)) (r .whole)) (now (output .exit)) (r .written) ⌝ }
 {
     let mut digits = [0u8; number::ANSWER_BYTES];
-    let t = charging::charge_held(plan, prices, districts, whole, body, &mut digits);
-    let a = t.answer;
-    let left = t.whole;
+    let a = number::answer_held(plan, number, &mut digits);
+    if a.refusal != ACCEPTED {
+        return refused_line(a.refusal, whole, output);
+    }
     let n = a.digits;
+    let c = charging::charge(
+        call,
+        prices,
+        districts,
+        whole,
+        body,
+        a.outcome,
+        &digits[0..n],
+    );
+    let left = c.whole;
+    if c.refusal != ACCEPTED {
+        return refused_line(c.refusal, left, output);
+    }
     let written = text::number_line(a, &digits[0..n], output);
     Entered {
         written: written,
         whole: left,
     }
-}
-
-// The line of a call record, over a price list and a ledger that are known to be in range.
-pub fn charge_record(
-    masks: &[u8],
-    plan: &[u8],
-    opened: bool,
-    prices: &[u8],
-    districts: &mut [i64; LEDGER_NUMBERS],
-    whole: Totals,
-    body: &[u8],
-    output: &mut [u8],
-) -> Entered
-    requires { ⌜ (soundOf (now plan) ≡ opened) × (pricesInRange (now prices) ≡ true) × (ledgerInRange (ledgerOf (now districts) whole) ≡ true) × (length (now body) ≡ CALL-BYTES) × (LONGEST ≤ length (now output)) × (now masks ≡ maskTable) ⌝ }
-    ensures { λ r. ⌜ ChargePromise (stateOf (now (plan .entry))) (rowsIn (now (prices .entry))) (ledgerOf (now (districts .entry)) whole) (now (body .entry)) (now (output .entry)) (ledgerOf (now (districts .exit)) (r .whole)) (now (output .exit)) (r .written) ⌝ }
-{
-    if !opened {
-        let unsound = text::no_line(PLAN, output);
-        return Entered {
-            written: unsound,
-            whole: whole,
-        };
-    }
-    if !charging::call_in_range_by(masks, body) {
-        let outside = text::no_line(RANGE, output);
-        return Entered {
-            written: outside,
-            whole: whole,
-        };
-    }
-    charge_line(plan, prices, districts, whole, body, output)
 }
 
 // A ROW
@@ -118,7 +113,7 @@ fn district_line(
 // The last line: that of the whole.
 fn last_line(districts: &[i64; LEDGER_NUMBERS], whole: Totals, output: &mut [u8]) -> Reported
     requires { ⌜ (ledgerInRange (ledgerOf (now districts) whole) ≡ true) × (LONGEST ≤ length (now output)) ⌝ }
-    ensures { λ r. ⌜ Writes (totalLine whole) (now (output .entry)) (now (output .exit)) (r .written) × (r .last ≡ true) ⌝ }
+    ensures { λ r. ⌜ Writes (totalLine whole) (now (output .entry)) (now (output .exit)) (r .written) × (r .last ≡ true) × (r .next ≡ 0) ⌝ }
 {
     let loss = ledger::loss_of(whole);
     let written = text::total_line(loss.cents, output);

@@ -20,6 +20,7 @@ use Rattle.meaning.specs.Answer.{Answer, refused, answerOf}
 use Rattle.meaning.specs.Answers.{answeredAs}
 use Rattle.meaning.specs.Charges.{CallRecord, callRecordOf, callInRange, pricedBy, pricedOn, dueOn, dueOf, entryWith, numberIn, dueBy, entryOf, takingRefusal, charged, ledgerAfter}
 use Rattle.meaning.specs.declared.Answered.{Answered}
+use Rattle.meaning.proofs.Tests.{true-is}
 use Rattle.plan.specs.Layout.{planOf}
 use Rattle.plan.specs.State.{soundOf, stateOf}
 use Rattle.plan.proofs.ImageLaws.{state-some, state-none}
@@ -28,7 +29,7 @@ use Rattle.prices.proofs.ImageLaws.{prices-some, prices-none}
 use Rattle.ledger.specs.Entries.{entryFor}
 use Rattle.number.specs.Promises.{HoldsAnswer, GivesAnswer}
 use Rattle.number.proofs.Answering.{gives-refused, holds-count, holds-refused}
-use Rattle.charging.specs.Dues.{dueGiven, GivesDue, entryDue, Enters}
+use Rattle.charging.specs.Dues.{dueGiven, GivesDue, entryDue, dueRefusal, dueLedger, Charges, ChargesIf}
 use Rattle.charging.specs.declared.Due.{Due}
 use Rattle.charging.specs.declared.Due.the-variants.{Units, NoPrice}
 use Rattle.charging.specs.Promises.{lentInRange, Chargeable, HoldsTaken, TakesKnown, Takes}
@@ -36,12 +37,27 @@ use Rattle.charging.proofs.Taking.{refused-by, accepted-by, answer-itse
 
 -- A RECORD ON THE LEDGER, OR NOT
 
-module _ (l : Ledger) (e : Entry) (a : Answered) where
-  pub enters-full : {r : Answered} → isFull l ≡ true → r ≡ answeredAs (refused LEDGER-FULL) → Enters l e a l r
-  enters-full f q = record { answer-is = rw f q; ledger-is = rw f }
+module _ (c : CallRecord) (due : ℕ) (l : Ledger) where
+  pub enters-full : {r : ℕ} → isFull l ≡ true → r ≡ LEDGER-FULL → Charges (some due) c l l r
+  enters-full f q = record { refusal-is = rw f q; ledger-is = rw f }
 
-  pub enters : {after : Ledger} → isFull l ≡ false → after ≡ entered e l → Enters l e a after a
-  enters f q = record { answer-is = rw f; ledger-is = rw f q }
+  pub enters : {after : Ledger} → isFull l ≡ false → after ≡ entered (entryDue c due) l → Charges (some due) c l after 0
+  enters f q = record { refusal-is = rw f; ledger-is = rw f q }
+
+-- by what was given as due
+pub charges-none : {o : Option ℕ} {d : Due} (c : CallRecord) (l : Ledger) → GivesDue o d → d ≡ NoPrice → Charges o c l l NO-PRICE
+charges-none c l g e = rw (← g .is, e) (record { refusal-is = refl; ledger-is = refl })
+
+pub charges-some : {o : Option ℕ} {d : Due} {c : CallRecord} {l after : Ledger} {r : ℕ} (due : ℕ) → GivesDue o d → d ≡ Units due → Charges (some due) c l after r → Charges o c l after r
+charges-some due g e x = rw (← g .is, e) x
+
+-- where the number is a call record's, or not
+module _ {b : Bool} {due : Option ℕ} {c : CallRecord} {l : Ledger} where
+  pub charges-call : {after : Ledger} {r : ℕ} → b ≡ true → Charges due c l after r → ChargesIf b due c l after r
+  charges-call e x = record { charges = λ h. x; none-is = λ h. absurd (true-is false (sym h ∙ e)); left-is = λ h. absurd (true-is false (sym h ∙ e)) }
+
+  pub charges-number : b ≡ false → ChargesIf b due c l l 0
+  charges-number e = record { charges = λ h. absurd (true-is false (sym e ∙ h)); none-is = λ h. refl; left-is = λ h. refl }
 
 -- the fields as they are read
 pub entry-is : (body : List ℕ) {district billed : ℕ} (due : ℕ) → district ≡ word body DISTRICT-AT → billed ≡ quad body BILLED-AT
@@ -95,57 +111,75 @@ module _ {m prices body : List ℕ} {l : Ledger} (k : Chargeable m prices l body
     refusal-is = ap (λ (b : List ℕ). answerOf p (numberIn b) .refusal) all-body ∙ sym (ap (λ (x : Answered). x .refusal) (h .result))
 
     -- the number's own refusal
-    pub holds-own : r .refusal ≢ 0 → HoldsTaken m prices l body l digits r
-    holds-own n =
-        let own : answerOf p (numberIn (take CALL-BYTES body)) .refusal ≢ 0 = λ e. n (sym refusal-is ∙ e) in
-        let by = refused-by (some p) (some rs) l DIGIT-ROOM body _ (taking-own p l DIGIT-ROOM body long (omega arith) rs ranged (k .ledger-in) own) own in
-        let is : charged (some p) (some rs) l DIGIT-ROOM body ≡ answerOf p (numberIn body) =
-        by .0 ∙ (answer-itself p (numberIn (take CALL-BYTES body)) own ∙ ap (λ (b : List ℕ). answerOf p (numberIn b)) all-body) in
-        record { answer = subst (λ (x : Answer). HoldsAnswer x digits r) (sym is) h; ledger = sym (by .1) }
+    module _ (n : r .refusal ≢ 0) where
+      own : answerOf p (numberIn (take CALL-BYTES body)) .refusal ≢ 0
+      own e = n (sym refusal-is ∙ e)
+
+      own-by : (charged (some p) (some rs) l DIGIT-ROOM body ≡ refused (answerOf p (numberIn (take CALL-BYTES body)) .refusal)) × (ledgerAfter (some p) (some rs) l DIGIT-ROOM body ≡ l)
+      own-by = refused-by (some p) (some rs) l DIGIT-ROOM body _ (taking-own p l DIGIT-ROOM body long (omega arith) rs ranged (k .ledger-in) own) own
+
+      pub charged-own : charged (some p) (some rs) l DIGIT-ROOM body ≡ answerOf p (numberIn body)
+      charged-own = own-by .0 ∙ (answer-itself p (numberIn (take CALL-BYTES body)) own ∙ ap (λ (b : List ℕ). answerOf p (numberIn b)) all-body)
+
+      pub holds-own : HoldsTaken m prices l body l digits r
+      holds-own = record { answer = subst (λ (x : Answer). HoldsAnswer x digits r) (sym charged-own) h; ledger = sym (own-by .1) }
 
     module _ (given : r .refusal ≡ 0) where
       given-is : answerOf p (numberIn (take CALL-BYTES body)) .refusal ≡ 0
       given-is = refusal-is ∙ given
 
+      abbrev due : Option ℕ
+      due = dueOn rs (callRecordOf body .seconds) (pricedBy (r .outcome) (numberIn body .digits) (take (r .digits - 0) digits))
+
       -- the digits that the call is priced on are the definition's
-      pub due-is : {d : Due} → GivesDue (dueOn rs (callRecordOf body .seconds) (pricedBy (r .outcome) (numberIn body .digits) (take (r .digits - 0) digits))) d
-          → dueBy p rs (take CALL-BYTES body) ≡ dueGiven d
+      due-is : dueBy p rs (take CALL-BYTES body) ≡ due
       unfolding dueOf pricedOn
-      due-is g =
+      due-is =
           let out : take (r .digits - 0) digits ≡ answerOf p (numberIn body) .digits = rw (sub-zero, holds-count h) (h .digits) in
           let outcome : r .outcome ≡ answerOf p (numberIn body) .outcome = ap (λ (x : Answered). x .outcome) (h .result) in
-          ap (dueBy p rs) all-body ∙ sym (rw (out, outcome) at (g .is))
+          ap (dueBy p rs) all-body ∙ sym (rw (out, outcome))
 
-      pub holds-no-price : {d : Due} {t : Answered} → GivesDue (dueOn rs (callRecordOf body .seconds) (pricedBy (r .outcome) (numberIn body .digits) (take (r .digits - 0) digits))) d
-          → d ≡ NoPrice → t ≡ answeredAs (refused NO-PRICE) → HoldsTaken m prices l body l digits t
-      holds-no-price g e q =
-          let by = refused-by (some p) (some rs) l DIGIT-ROOM body NO-PRICE (taking-no-price p l DIGIT-ROOM body long (omega arith) rs ranged (k .ledger-in) given-is (due-is g ∙ ap dueGiven e)) (λ z. omega (arith, z)) in
-          record { answer = holds-refused (charged (some p) (some rs) l DIGIT-ROOM body) NO-PRICE digits _ (by .0) q; ledger = sym (by .1) }
-
-      pub holds-entered : {d : Due} {t : Answered} {after : Ledger} (due : ℕ)
-          → GivesDue (dueOn rs (callRecordOf body .seconds) (pricedBy (r .outcome) (numberIn body .digits) (take (r .digits - 0) digits))) d → d ≡ Units due
-          → Enters l (entryDue (callRecordOf body) due) r after t → HoldsTaken m prices l body after digits t
-      unfolding entryOf
-      holds-entered {d} {t} {after} due g e n = go (isFull l) refl (n .answer-is) (n .ledger-is)
+      -- the refusal is the definition's, and so is the ledger
+      taking-is : (o : Option ℕ) → dueBy p rs (take CALL-BYTES body) ≡ o → takingRefusal (some p) (some rs) l DIGIT-ROOM body ≡ dueRefusal o l
+      taking-is none e = taking-no-price p l DIGIT-ROOM body long (omega arith) rs ranged (k .ledger-in) given-is e
+      taking-is (some d) e = go (isFull l) refl
         where
-          due-by : dueBy p rs (take CALL-BYTES body) ≡ some due
-          due-by = due-is g ∙ ap dueGiven e
+          go : (b : Bool) → isFull l ≡ b → takingRefusal (some p) (some rs) l DIGIT-ROOM body ≡ (if b then LEDGER-FULL else 0)
+          go true f = taking-full p l DIGIT-ROOM body long (omega arith) rs ranged (k .ledger-in) given-is d e f
+          go false f = taking-accepted p l DIGIT-ROOM body long (omega arith) rs ranged (k .ledger-in) given-is d e f
 
-          entered-is : entryOf p rs (take CALL-BYTES body) ≡ entryDue (callRecordOf body) due
-          entered-is = rw due-by (ap (λ (b : List ℕ). entryDue (callRecordOf b) due) all-body)
+      entered-is : (d : ℕ) → dueBy p rs (take CALL-BYTES body) ≡ some d → entryOf p rs (take CALL-BYTES body) ≡ entryDue (callRecordOf body) d
+      unfolding entryOf
+      entered-is d e = rw e (ap (λ (b : List ℕ). entryDue (callRecordOf b) d) all-body)
 
-          go : (b : Bool) → isFull l ≡ b → t ≡ (if b then answeredAs (refused LEDGER-FULL) else r) → after ≡ (if b then l else entered (entryDue (callRecordOf body) due) l)
-              → HoldsTaken m prices l body after digits t
-          go true f q w =
-              let by = refused-by (some p) (some rs) l DIGIT-ROOM body LEDGER-FULL (taking-full p l DIGIT-ROOM body long (omega arith) rs ranged (k .ledger-in) given-is due due-by f) (λ z. omega (arith, z)) in
-              record { answer = holds-refused (charged (some p) (some rs) l DIGIT-ROOM body) LEDGER-FULL digits t (by .0) q; ledger = w ∙ sym (by .1) }
-          go false f q w =
-              let by = accepted-by (some p) (some rs) l DIGIT-ROOM body (taking-accepted p l DIGIT-ROOM body long (omega arith) rs ranged (k .ledger-in) given-is due due-by f) in
-              let is : charged (some p) (some rs) l DIGIT-ROOM body ≡ answerOf p (numberIn body) = by .0 ∙ ap (λ (b : List ℕ). answerOf p (numberIn b)) all-body in
-              record {
-                answer = rw q (subst (λ (x : Answer). HoldsAnswer x digits r) (sym is) h);
-                ledger = w ∙ (ap (λ (x : Entry). entered x l) (sym entered-is) ∙ sym (by .1));
-              }
+      ledger-by : (o : Option ℕ) → dueBy p rs (take CALL-BYTES body) ≡ o → dueLedger (callRecordOf body) o l ≡ ledgerAfter (some p) (some rs) l DIGIT-ROOM body
+      ledger-by none e = sym (refused-by (some p) (some rs) l DIGIT-ROOM body NO-PRICE (taking-is none e) (λ z. omega (arith, z)) .1)
+      ledger-by (some d) e = go (isFull l) refl
+        where
+          go : (b : Bool) → isFull l ≡ b → (if b then l else entered (entryDue (callRecordOf body) d) l) ≡ ledgerAfter (some p) (some rs) l DIGIT-ROOM body
+          go true f = sym (refused-by (some p) (some rs) l DIGIT-ROOM body LEDGER-FULL (taking-full p l DIGIT-ROOM body long (omega arith) rs ranged (k .ledger-in) given-is d e f) (λ z. omega (arith, z)) .1)
+          go false f =
+              let by = accepted-by (some p) (some rs) l DIGIT-ROOM body (taking-accepted p l DIGIT-ROOM body long (omega arith) rs ranged (k .ledger-in) given-is d e f) in
+              ap (λ (x : Entry). entered x l) (sym (entered-is d e)) ∙ sym (by .1)
+
+      module _ {after : Ledger} {n : ℕ} (g : Charges due (callRecordOf body) l after n) where
+        pub charged-ledger : after ≡ ledgerAfter (some p) (some rs) l DIGIT-ROOM body
+        charged-ledger = g .ledger-is ∙ ledger-by due due-is
+
+        charged-refusal : takingRefusal (some p) (some rs) l DIGIT-ROOM body ≡ n
+        charged-refusal = taking-is due due-is ∙ sym (g .refusal-is)
+
+        pub charged-refused : n ≢ 0 → charged (some p) (some rs) l DIGIT-ROOM body ≡ refused n
+        charged-refused i = refused-by (some p) (some rs) l DIGIT-ROOM body n charged-refusal i .0
+
+        pub charged-answered : n ≡ 0 → charged (some p) (some rs) l DIGIT-ROOM body ≡ answerOf p (numberIn body)
+        charged-answered i = accepted-by (some p) (some rs) l DIGIT-ROOM body (charged-refusal ∙ i) .0 ∙ ap (λ (b : List ℕ). answerOf p (numberIn b)) all-body
+
+        pub holds-refusal : {t : Answered} → n ≢ 0 → t ≡ answeredAs (refused n) → HoldsTaken m prices l body after digits t
+        holds-refusal {t} i q = record { answer = holds-refused (charged (some p) (some rs) l DIGIT-ROOM body) n digits t (charged-refused i) q; ledger = charged-ledger }
+
+        pub holds-answer : n ≡ 0 → HoldsTaken m prices l body after digits r
+        holds-answer i = record { answer = subst (λ (x : Answer). HoldsAnswer x digits r) (sym (charged-answered i)) h; ledger = charged-ledger }
 
 -- THE CALL
 

@@ -1,14 +1,12 @@
 -- What the functions on the way to a call record's entry give.
 use Prim.Native.Nat.{ℕ, _*_, _≤_}
 use mathlib.Core.Path.{_≡_}
+use mathlib.Core.Bool.{Bool, true, false}
 use mathlib.Core.Option.{Option, none, some}
 use Rattle.meaning.specs.Basics.{if_then_else_}
-use Rattle.meaning.specs.Refusals.{LEDGER-FULL}
-use Rattle.meaning.specs.Answer.{refused}
-use Rattle.meaning.specs.Answers.{answeredAs}
+use Rattle.meaning.specs.Refusals.{NO-PRICE, LEDGER-FULL}
 use Rattle.meaning.specs.Ledger.{UNIT-LIMIT, UNITS, Ledger, isFull, Entry, entered}
 use Rattle.meaning.specs.Charges.{CallRecord}
-use Rattle.meaning.specs.declared.Answered.{Answered}
 use Rattle.ledger.specs.Entries.{entryFor}
 use Rattle.charging.specs.declared.Due.{Due}
 use Rattle.charging.specs.declared.Due.the-variants.{Units, NoPrice}
@@ -30,7 +28,22 @@ pub record GivesDue (due : Option ℕ) (r : Due) : Type 0 where
 abbrev pub entryDue : CallRecord → ℕ → Entry
 entryDue c due = entryFor (c .district) due (c .billed * UNITS)
 
--- an entry and the answer, or LEDGER FULL
-pub record Enters (l : Ledger) (e : Entry) (a : Answered) (after : Ledger) (r : Answered) : Type 0 where
-  pub answer-is : r ≡ (if isFull l then answeredAs (refused LEDGER-FULL) else a)
-  pub ledger-is : after ≡ (if isFull l then l else entered e l)
+-- the refusal of a record that is due so much, or 0; NO PRICE where no row fits
+abbrev pub dueRefusal : Option ℕ → Ledger → ℕ
+dueRefusal none l = NO-PRICE
+dueRefusal (some due) l = if isFull l then LEDGER-FULL else 0
+
+-- and the ledger that it leaves
+abbrev pub dueLedger : CallRecord → Option ℕ → Ledger → Ledger
+dueLedger c none l = l
+dueLedger c (some due) l = if isFull l then l else entered (entryDue c due) l
+
+pub record Charges (due : Option ℕ) (c : CallRecord) (l after : Ledger) (refusal : ℕ) : Type 0 where
+  pub refusal-is : refusal ≡ dueRefusal due l
+  pub ledger-is : after ≡ dueLedger c due l
+
+-- nothing is charged where the number is not a call record's
+pub record ChargesIf (call : Bool) (due : Option ℕ) (c : CallRecord) (l after : Ledger) (refusal : ℕ) : Type 0 where
+  pub charges : call ≡ true → Charges due c l after refusal
+  pub none-is : call ≡ false → refusal ≡ 0
+  pub left-is : call ≡ false → after ≡ l

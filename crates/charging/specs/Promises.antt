@@ -4,13 +4,13 @@ use mathlib.Core.Path.{_≡_}
 use mathlib.Core.Bool.{Bool, true}
 use mathlib.Core.List.{List, [], _∷_}
 use mathlib.Core.Option.{some}
-use lib.ListN.{length}
+use lib.ListN.{length, take}
 use Rattle.meaning.specs.Sizes.{CALL-BYTES, DIGIT-ROOM}
 use Rattle.meaning.specs.Basics.{allOf}
 use Rattle.meaning.specs.Answer.{refused}
 use Rattle.meaning.specs.Answers.{answeredAs}
 use Rattle.meaning.specs.Ledger.{Ledger, ledgerInRange}
-use Rattle.meaning.specs.Charges.{callInRange, charged, ledgerAfter}
+use Rattle.meaning.specs.Charges.{callRanges, callInRange, charged, ledgerAfter}
 use Rattle.meaning.specs.declared.Answered.{Answered}
 use Rattle.meaning.specs.declared.Taken.{Taken}
 use Rattle.meaning.specs.declared.Totals.{Totals}
@@ -18,6 +18,10 @@ use Rattle.plan.specs.Layout.{planOf}
 use Rattle.plan.specs.State.{soundOf, stateOf}
 use Rattle.prices.specs.Layout.{rowsIn, pricesInRange, pricesOf}
 use Rattle.number.specs.Promises.{HoldsAnswer, GivesAnswer}
+
+-- the fields before a call record's number: the first three tests of its range
+abbrev pub headInRange : List ℕ → Bool
+headInRange b = allOf (take 3 (callRanges b))
 
 -- the tests of RANGE, in the order in which they are made
 abbrev pub lentTests : List ℕ → Ledger → List ℕ → List Bool
@@ -32,6 +36,13 @@ takenAs answer whole = record { answer = answer; whole = whole }
 -- a refusal
 abbrev pub refusedAs : ℕ → Totals → Taken
 refusedAs number whole = takenAs (answeredAs (refused number)) whole
+
+-- a price list, a ledger and a call record that are in range
+pub record Priceable (prices : List ℕ) (l : Ledger) (body : List ℕ) : Type 0 where
+  pub prices-in : pricesInRange prices ≡ true
+  pub ledger-in : ledgerInRange l ≡ true
+  pub whole : length body ≡ CALL-BYTES
+  pub range : callInRange body ≡ true
 
 -- a sound plan, a price list, a ledger and a call record that are in range
 pub record Chargeable (m prices : List ℕ) (l : Ledger) (body : List ℕ) : Type 0 where

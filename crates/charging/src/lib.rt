@@ -1,17 +1,17 @@
 // Charging a call record: its range, what it is due by the plan and the price list, and its entry in the ledger.
 ghost use mathlib.Core.Path.{_≡_};
 ghost use mathlib.Core.Bool.{true};
+ghost use mathlib.Core.Option.{some};
 ghost use Prim.Native.Nat.{_*_, _≤_};
 ghost use lib.ListN.{length};
 ghost use Rattle.meaning.specs.Sizes.{CALL-BYTES};
 ghost use Rattle.meaning.specs.Prices.{priceFor};
 ghost use Rattle.meaning.specs.Ledger.{UNIT-LIMIT, ledgerOf, ledgerInRange};
 ghost use Rattle.meaning.specs.Charges.{SECONDS-LIMIT, callRecordOf, callInRange, pricedBy, timesPrice, dueOn, numberIn};
-ghost use Rattle.blocks.specs.Places.{maskTable};
 ghost use Rattle.prices.specs.Layout.{rowsIn, pricesInRange};
 ghost use Rattle.number.specs.Answering.{ANSWER-BYTES};
-ghost use Rattle.charging.specs.Dues.{GivesDue, entryDue, Enters};
-ghost use Rattle.charging.specs.Promises.{lentInRange, refusedAs, Chargeable, HoldsTaken, TakesKnown, Takes};
+ghost use Rattle.charging.specs.Dues.{GivesDue, Charges, ChargesIf};
+ghost use Rattle.charging.specs.Promises.{headInRange, lentInRange, refusedAs, Priceable, Chargeable, HoldsTaken, TakesKnown, Takes};
 use meaning::Answered;
 use meaning::Taken;
 use meaning::Totals;
@@ -46,10 +46,10 @@ const UNITS: usize = 60;
 
 // RANGE
 
-// Whether a call record is in range, by a table of masks that is made once for many.
-pub fn call_in_range_by(masks: &[u8], body: &[u8]) -> bool
-    requires { ⌜ (length (now body) ≡ CALL-BYTES) × (now masks ≡ maskTable) ⌝ }
-    ensures { λ r. ⌜ r ≡ callInRange (now (body .entry)) ⌝ }
+// Whether the fields before a call record's number are in range.
+pub fn head_in_range(body: &[u8]) -> bool
+    requires { ⌜ length (now body) ≡ CALL-BYTES ⌝ }
+    ensures { λ r. ⌜ r ≡ headInRange (now (body .entry)) ⌝ }
 {
     if DISTRICTS <= buffer::word(body, DISTRICT_AT) {
         return false;
@@ -57,20 +57,18 @@ pub fn call_in_range_by(masks: &[u8], body: &[u8]) -> bool
     if SECONDS_LIMIT < buffer::quad(body, SECONDS_AT) {
         return false;
     }
-    if BILLED_LIMIT < buffer::quad(body, BILLED_AT) {
-        return false;
-    }
-    ranges::number_in_range_by(masks, &body[CALL_HEAD..CALL_BYTES])
+    buffer::quad(body, BILLED_AT) <= BILLED_LIMIT
 }
 
-// The same for one record.
+// Whether a call record is in range.
 fn call_in_range(body: &[u8]) -> bool
     requires { ⌜ length (now body) ≡ CALL-BYTES ⌝ }
     ensures { λ r. ⌜ r ≡ callInRange (now (body .entry)) ⌝ }
 {
-    let mut masks = [0xffu8; 64];
-    blocks::mask_digits(&mut masks);
-    call_in_range_by(&masks, body)
+    if !head_in_range(body) {
+        return false;
+    }
+    ranges::number_in_range(&body[CALL_HEAD..CALL_BYTES])
 }
 
 // Whether a call record, a lent price list and a lent ledger are in range.
@@ -132,6 +130,59 @@ fn due_of(prices: &[u8], body: &[u8], outcome: u8, outgoing: &[u8]) -> Due
 
 // THE ENTRY
 
+// How charging ended: a refusal, or 0, and the whole's totals behind it.
+pub struct Charged {
+    pub refusal: u8,
+    pub whole: Totals,
+}
+
+// The record on the ledger with what it is due, or LEDGER FULL.
+fn enter(districts: &mut [i64; LEDGER_NUMBERS], whole: Totals, body: &[u8], due: usize) -> Charged
+    requires { ⌜ (ledgerInRange (ledgerOf (now districts) whole) ≡ true) × (length (now body) ≡ CALL-BYTES) × (callInRange (now body) ≡ true) × (due ≤ UNIT-LIMIT) ⌝ }
+    ensures { λ r. ⌜ Charges (some due) (callRecordOf (now (body .entry))) (ledgerOf (now (districts .entry)) whole) (ledgerOf (now (districts .exit)) (r .whole)) (r .refusal) ⌝ }
+{
+    if ledger::is_full(whole) {
+        return Charged {
+            refusal: LEDGER_FULL,
+            whole: whole,
+        };
+    }
+    let district = buffer::word(body, DISTRICT_AT);
+    let billed = buffer::quad(body, BILLED_AT) * UNITS;
+    Charged {
+        refusal: ACCEPTED,
+        whole: ledger::enter(districts, whole, district, due, billed),
+    }
+}
+
+// Charges a number that was answered, where it is a call record's: what it is due goes on the ledger, or it draws NO PRICE or LEDGER FULL.
+pub fn charge(
+    call: bool,
+    prices: &[u8],
+    districts: &mut [i64; LEDGER_NUMBERS],
+    whole: Totals,
+    body: &[u8],
+    outcome: u8,
+    outgoing: &[u8],
+) -> Charged
+    requires { ⌜ (call ≡ true → Priceable (now prices) (ledgerOf (now districts) whole) (now body)) ⌝ }
+    ensures { λ r. ⌜ ChargesIf call (dueOn (rowsIn (now (prices .entry))) (callRecordOf (now (body .entry)) .seconds) (pricedBy outcome (numberIn (now (body .entry)) .digits) (now (outgoing .entry)))) (callRecordOf (now (body .entry))) (ledgerOf (now (districts .entry)) whole) (ledgerOf (now (districts .exit)) (r .whole)) (r .refusal) ⌝ }
+{
+    if !call {
+        return Charged {
+            refusal: ACCEPTED,
+            whole: whole,
+        };
+    }
+    match due_of(prices, body, outcome, outgoing) {
+        Due::NoPrice => Charged {
+            refusal: NO_PRICE,
+            whole: whole,
+        },
+        Due::Units(due) => enter(districts, whole, body, due),
+    }
+}
+
 // A refusal: the whole's totals stay.
 fn refused(number: u8, whole: Totals) -> Taken
     ensures { λ r. ⌜ r ≡ refusedAs number whole ⌝ }
@@ -142,31 +193,9 @@ fn refused(number: u8, whole: Totals) -> Taken
     }
 }
 
-// The record on the ledger with what it is due, or LEDGER FULL.
-fn enter(
-    districts: &mut [i64; LEDGER_NUMBERS],
-    whole: Totals,
-    body: &[u8],
-    answer: Answered,
-    due: usize,
-) -> Taken
-    requires { ⌜ (ledgerInRange (ledgerOf (now districts) whole) ≡ true) × (length (now body) ≡ CALL-BYTES) × (callInRange (now body) ≡ true) × (due ≤ UNIT-LIMIT) ⌝ }
-    ensures { λ r. ⌜ Enters (ledgerOf (now (districts .entry)) whole) (entryDue (callRecordOf (now (body .entry))) due) answer (ledgerOf (now (districts .exit)) (r .whole)) (r .answer) ⌝ }
-{
-    if ledger::is_full(whole) {
-        return refused(LEDGER_FULL, whole);
-    }
-    let district = buffer::word(body, DISTRICT_AT);
-    let billed = buffer::quad(body, BILLED_AT) * UNITS;
-    Taken {
-        answer: answer,
-        whole: ledger::enter(districts, whole, district, due, billed),
-    }
-}
-
 // A call record over a plan, a price list and a ledger that are known to be in order. The outgoing digits stand at the front of a buffer of which nothing else is
 // kept.
-pub fn charge_held(
+fn charge_held(
     plan: &[u8],
     prices: &[u8],
     districts: &mut [i64; LEDGER_NUMBERS],
@@ -185,9 +214,22 @@ pub fn charge_held(
         };
     }
     let n = a.digits;
-    match due_of(prices, body, a.outcome, &digits[0..n]) {
-        Due::NoPrice => refused(NO_PRICE, whole),
-        Due::Units(due) => enter(districts, whole, body, a, due),
+    let c = charge(
+        true,
+        prices,
+        districts,
+        whole,
+        body,
+        a.outcome,
+        &digits[0..n],
+    );
+    let left = c.whole;
+    if c.refusal != ACCEPTED {
+        return refused(c.refusal, left);
+    }
+    Taken {
+        answer: a,
+        whole: left,
     }
 }
 

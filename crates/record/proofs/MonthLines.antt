@@ -1,4 +1,4 @@
--- The lines of a call record, of a row of the price list and of the losses, and what they leave of all that is lent.
+-- The lines of a number, of a call record, of a row of the price list and of the losses, and what they leave of all that is lent.
 use Prim.Native.Nat.{ℕ, _+_, _<_}
 use mathlib.Core.Path.{_≡_, refl, ap, ap₂, sym, _∙_}
 use mathlib.Core.Logic.{_≢_}
@@ -8,13 +8,14 @@ use mathlib.Core.Option.{Option, none, some}
 use native.Mathlib.Omega.{arith}
 use lib.IntN.{ℤ}
 use lib.ListN.{length}
-use lib.Dec.{leb}
-use borrow.Author.Tests.{lt-leb, leb-true, eqb-true}
-use Rattle.meaning.specs.Sizes.{DIGIT-ROOM, CALL-BYTES, PRICE-BODY}
+use lib.Dec.{leb, eqb}
+use borrow.Author.Tests.{lt-leb, leb-true, eqb-true, eqb-false}
+use Rattle.meaning.specs.Sizes.{DIGIT-ROOM, NUMBER-BYTES, CALL-BYTES, PRICE-BODY}
 use Rattle.meaning.specs.Basics.{isZero, within}
-use Rattle.meaning.specs.Calls.{LIST, CALL, PRICE, LOSSES, isKind, isCall, bodyLength}
+use Rattle.meaning.specs.Calls.{NUMBER, LIST, CALL, PRICE, LOSSES, isKind, isCall, bodyLength}
 use Rattle.meaning.specs.Prices.{PriceRow, pricesPass, priceRefusal, rowsAfter}
 use Rattle.meaning.specs.Ledger.{Ledger, ledgerOf}
+use Rattle.meaning.specs.Answer.{answer}
 use Rattle.meaning.specs.Charges.{charged, ledgerAfter}
 use Rattle.meaning.specs.Records.{acceptedLine, numberLine, House, houseWith, rowsOr, recordText, recordHouse}
 use Rattle.meaning.specs.declared.Totals.{Totals}
@@ -28,12 +29,14 @@ use Rattle.run.proofs.RunLaws.{memory-kept}
 use Rattle.text.specs.Writes.{Writes}
 use Rattle.text.proofs.Lines.{front-is}
 use Rattle.billing.specs.Parts.{lossPart}
-use Rattle.billing.specs.Lines.{ChargePromise, PricePromise, nextOf, LossPromise}
+use Rattle.billing.specs.Lines.{AnsweredPromise, PricePromise, nextOf, LossPromise}
 use Rattle.billing.specs.declared.Reported.{Reported}
+use Rattle.record.specs.Numbers.{hasNumber}
 use Rattle.record.specs.Turns.{Turn, wrote, recordPart, turnBy, recordTurn}
 use Rattle.record.specs.Promises.{Lent, lent, houseOf, lentFor, InHouse, lineOf, LinePromise}
 use Rattle.record.specs.declared.Run.{Run}
 use Rattle.record.specs.declared.Line.{Line}
+use Rattle.record.proofs.NumberLines.{either}
 
 -- A LINE THAT IS WRITTEN, over what is lent as it is left
 
@@ -52,6 +55,10 @@ any-line {after = after} taken lines opened whole w t-is memory o =
     })
 
 -- THE TURNS
+
+number-turn : (h : House) (lines : ℕ) (body : List ℕ) → recordTurn h lines NUMBER body ≡ wrote (numberLine (answer (h .plan) DIGIT-ROOM body)) (1 + NUMBER-BYTES) h 0
+unfolding recordTurn recordPart recordText recordHouse isCall bodyLength
+number-turn h lines body = refl
 
 call-turn : (h : House) (lines : ℕ) (body : List ℕ)
     → recordTurn h lines CALL body
@@ -102,25 +109,37 @@ module _ (m p : List ℕ) (ds : List ℤ) (run : Run) (i : InHouse (lent m p ds 
   kept : (p' : List ℕ) (ds' : List ℤ) (w : Totals) → p' ≡ pricesImage (rowsIn p') → lent m p' ds' w ≡ lentFor (houseOf (lent m p' ds' w)) given
   kept p' ds' w e = ap₂ (λ (x y : List ℕ). lent x y ds' w) (sym (memory-kept m)) e
 
-  module _ (k : ℕ) (body : List ℕ) (size : length body ≡ bodyLength k) where
+  module _ (k : ℕ) (body : List ℕ) where
     abbrev Lines : List ℕ → Lent → List ℕ → Line → Type 0
     Lines out after last r = LinePromise (recordTurn (houseOf given) (run .lines) k body) given out after last r
 
-    -- of a call record: the price list stays
-    pub charge-line : {out last : List ℕ} {ds' : List ℤ} {w : Totals} {n : ℕ} {r : Line} → k ≡ CALL
-        → ChargePromise (stateOf m) (rowsIn p) (ledgerOf ds (run .whole)) body out (ledgerOf ds' w) last n → r ≡ lineOf (1 + length body) n (run .opened) 0 w
-        → Lines out (lent m p ds' (r .run .whole)) last r
+    -- of a number, alone or in a call record: the price list stays
+    pub answered-line : {out last : List ℕ} {ds' : List ℤ} {w : Totals} {n : ℕ} {r : Line} (taken : ℕ) (opened : Bool) → hasNumber k ≡ true
+        → AnsweredPromise (eqb k CALL) (stateOf m) (rowsIn p) (ledgerOf ds (run .whole)) body out (ledgerOf ds' w) last n → taken ≡ 1 + bodyLength k → opened ≡ run .opened
+        → r ≡ lineOf taken n opened 0 w → Lines out (lent m p ds' (r .run .whole)) last r
     unfolding bodyLength
-    charge-line {ds' = ds'} {w} is c e =
-        let line : List ℕ = numberLine (charged (stateOf m) (some (rowsIn p)) (ledgerOf ds (run .whole)) DIGIT-ROOM body) in
-        let long : CALL-BYTES ≡ length body = sym (size ∙ ap bodyLength is) in
-        let t : recordTurn (houseOf given) (run .lines) CALL body ≡ wrote line (1 + length body) (houseOf (lent m p ds' w)) 0 =
-        call-turn (houseOf given) (run .lines) body ∙ ap₂ (λ (j : ℕ) (l : Ledger). wrote line (1 + j) (houseWith (stateOf m) (rowsIn p) l) 0) long (sym (c .ledger)) in
-        rw (is, e) (any-line (1 + length body) 0 (run .opened) w (c .line) t (kept p ds' w own-prices) (i .plan-in .state))
+    answered-line {out} {last} {ds'} {w} {n} {r} taken opened h c t-is o-is e = go (eqb k NUMBER) refl
+      where
+        go : (b : Bool) → eqb k NUMBER ≡ b → Lines out (lent m p ds' (r .run .whole)) last r
+        go true q =
+            let is : k ≡ NUMBER = eqb-true k NUMBER q in
+            let a = rw is at c in
+            let line : List ℕ = numberLine (answer (stateOf m) DIGIT-ROOM body) in
+            let t : recordTurn (houseOf given) (run .lines) NUMBER body ≡ wrote line (1 + NUMBER-BYTES) (houseOf (lent m p ds' w)) 0 =
+            number-turn (houseOf given) (run .lines) body ∙ ap (λ (l : Ledger). wrote line (1 + NUMBER-BYTES) (houseWith (stateOf m) (rowsIn p) l) 0) (sym (a .ledger)) in
+            rw (e, t-is, o-is, is) (any-line (1 + NUMBER-BYTES) 0 (run .opened) w (a .line) t (kept p ds' w own-prices) (i .plan-in .state))
+        go false q =
+            let is : k ≡ CALL = either k h (eqb-false k NUMBER q) in
+            let a = rw is at c in
+            let line : List ℕ = numberLine (charged (stateOf m) (some (rowsIn p)) (ledgerOf ds (run .whole)) DIGIT-ROOM body) in
+            let t : recordTurn (houseOf given) (run .lines) CALL body ≡ wrote line (1 + CALL-BYTES) (houseOf (lent m p ds' w)) 0 =
+            call-turn (houseOf given) (run .lines) body ∙ ap (λ (l : Ledger). wrote line (1 + CALL-BYTES) (houseWith (stateOf m) (rowsIn p) l) 0) (sym (a .ledger)) in
+            rw (e, t-is, o-is, is) (any-line (1 + CALL-BYTES) 0 (run .opened) w (a .line) t (kept p ds' w own-prices) (i .plan-in .state))
 
+  module _ (k : ℕ) (body : List ℕ) (size : length body ≡ bodyLength k) where
     -- of a row: the ledger stays
     pub price-line : {out last p' : List ℕ} {n : ℕ} {r : Line} → k ≡ PRICE → PricePromise p body out p' last n
-        → r ≡ lineOf (1 + length body) n (run .opened) 0 (run .whole) → Lines out (lent m p' ds (r .run .whole)) last r
+        → r ≡ lineOf (1 + length body) n (run .opened) 0 (run .whole) → Lines k body out (lent m p' ds (r .run .whole)) last r
     unfolding bodyLength
     price-line {p' = p'} is c e =
         let line : List ℕ = acceptedLine (priceRefusal (some (rowsIn p)) body) in
@@ -148,11 +167,11 @@ module _ (m p : List ℕ) (ds : List ℤ) (run : Run) (i : InHouse (lent m p ds 
         by : (next : Option ℕ) → nextOf l ≡ next → recordTurn (houseOf given) (run .lines) LOSSES body ≡ turnBy (houseOf given) LOSSES body text next
         by next e = loss-turn (houseOf given) (run .lines) body next (sym e ∙ c .next-is)
 
-        pub loss-last : {r : Line} → l .last ≡ true → r ≡ lineOf 1 (l .written) (run .opened) 0 (run .whole) → Lines out (lent m p ds (r .run .whole)) last r
+        pub loss-last : {r : Line} → l .last ≡ true → r ≡ lineOf 1 (l .written) (run .opened) 0 (run .whole) → Lines k body out (lent m p ds (r .run .whole)) last r
         loss-last f e =
             let t : recordTurn (houseOf given) (run .lines) LOSSES body ≡ wrote text 1 (houseOf given) 0 = by none (rw f) ∙ losses-end (houseOf given) body text in
             rw (losses-are, e) (any-line 1 0 (run .opened) (run .whole) (c .line) t (kept p ds (run .whole) own-prices) (i .plan-in .state))
 
-        pub loss-next : {r : Line} → l .last ≡ false → r ≡ lineOf 0 (l .written) (run .opened) (l .next) (run .whole) → Lines out (lent m p ds (r .run .whole)) last r
+        pub loss-next : {r : Line} → l .last ≡ false → r ≡ lineOf 0 (l .written) (run .opened) (l .next) (run .whole) → Lines k body out (lent m p ds (r .run .whole)) last r
         loss-next f e =
             rw (losses-are, e) (any-line 0 (l .next) (run .opened) (run .whole) (c .line) (by (some (l .next)) (rw f)) (kept p ds (run .whole) own-prices) (i .plan-in .state))

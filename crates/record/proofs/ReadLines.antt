@@ -183,10 +183,6 @@ module _ (m : List ℕ) (run : Run) where
 
 -- A RECORD THAT READS THE PLAN
 
-number-turn : (s : House) (lines : ℕ) (body : List ℕ) → recordTurn s lines NUMBER body ≡ wrote (numberLine (answer (s .plan) DIGIT-ROOM body)) (1 + NUMBER-BYTES) s 0
-unfolding recordTurn recordPart recordText recordHouse isCall bodyLength
-number-turn s lines body = refl
-
 refs-turn : (s : House) (lines : ℕ) (body : List ℕ) → recordTurn s lines REFS body ≡ wrote (refsLine (referrerCount (s .plan) (word body 0))) (1 + SET-NUMBER-BYTES) s 0
 unfolding recordTurn recordPart recordText recordHouse isCall bodyLength
 refs-turn s lines body = refl
@@ -203,10 +199,6 @@ list-turn s lines body = go (listPart (s .plan) lines .text) (listPart (s .plan)
 module _ (m : List ℕ) (run : Run) (k : ℕ) (body : List ℕ) where
   abbrev Reads : List ℕ → List ℕ → Written → Type 0
   Reads out last r = ReadPromise (recordTurn (planHouse m) (run .lines) k body) m run out last r
-
-  pub read-number : {out last : List ℕ} {n : ℕ} {r : Written} → k ≡ NUMBER → Writes (numberLine (answer (stateOf m) DIGIT-ROOM body)) out last n
-      → r ≡ lineOf (1 + NUMBER-BYTES) n (run .opened) 0 (run .whole) → Reads out last r
-  read-number h w e = read-line m run w (1 + NUMBER-BYTES) 0 (run .opened) (rw h (number-turn (planHouse m) (run .lines) body)) e refl
 
   pub read-refs : {out last : List ℕ} {n : ℕ} {r : Written} → k ≡ REFS → Writes (refsLine (referrerCount (stateOf m) (word body 0))) out last n
       → r ≡ lineOf (1 + SET-NUMBER-BYTES) n (run .opened) 0 (run .whole) → Reads out last r

@@ -1,6 +1,6 @@
 -- Each way out of a step is the turn's.
 use Prim.Native.Nat.{ℕ, _+_, _-_, _≤_, _<_}
-use mathlib.Core.Path.{_≡_, refl, ap, sym, _∙_}
+use mathlib.Core.Path.{_≡_, refl, ap, sym, subst, _∙_}
 use mathlib.Core.Bool.{Bool, true, false, not}
 use mathlib.Core.List.{List, [], _∷_}
 use native.Mathlib.Omega.{arith}
@@ -20,6 +20,7 @@ use Rattle.plan.specs.State.{soundOf}
 use Rattle.prices.specs.Layout.{pricesInRange}
 use Rattle.text.specs.Writes.{LONGEST, Writes}
 use Rattle.text.proofs.Lines.{front-is}
+use Rattle.record.specs.Numbers.{bodyAt}
 use Rattle.record.specs.Turns.{Turn, wants, full, ends, recordTurn, turnAt, turn, isWhole}
 use Rattle.record.specs.Promises.{Lent, lent, houseOf, turnOf, writtenBy, wholeBehind, textOf, lentAfter, OpenedRight, LinePromise, lastOf, cutAnswer, cutText, CutPromise, StepPromise, InHouse, fitTests, isFit}
 use Rattle.record.specs.declared.Line.{Line}
@@ -141,6 +142,21 @@ module _ (m : Lent) (lines : ℕ) (ended : Bool) (input out : List ℕ) where
               let t : turn (houseOf m) lines ended input (length out) ≡ recordTurn (houseOf m) lines kind (take (1 + n - 1) (drop 1 input)) =
               at-kind ∙ (whole-turn (houseOf m) lines ended kind (drop 1 input) known l ∙ ap (λ (j : ℕ). recordTurn (houseOf m) lines kind (take j (drop 1 input))) (sym same)) in
               promised (recordTurn (houseOf m) lines kind (take (1 + n - 1) (drop 1 input))) t (p .turn-is) (p .output-is) (p .count-is) (p .inside) (p .memory-is) (p .opened-is)
+
+-- a record that has a number, told by its kind
+module _ (m : Lent) (lines : ℕ) (ended : Bool) (input out : List ℕ) (some-input : length input ≡ 0 → ⊥) (room : LONGEST ≤ length out) (k : ℕ) (k-is : k ≡ getD input 0 0)
+    (known : isKind k ≡ true) where
+  pub number-cut-step : {last : List ℕ} {r : Stepped} → length input < 1 + bodyLength k → CutPromise ended out last r
+      → StepPromise m lines ended input out (lent (m .plan) (m .prices) (m .districts) (wholeBehind (m .whole) r)) last r
+  number-cut-step h p = cut-step m lines ended input out some-input room (ap isKind (sym k-is) ∙ known) (bodyLength k) (ap bodyLength k-is) h p
+
+  pub number-whole-step : {left : Lent} {last : List ℕ} {r : Line} → 1 + bodyLength k ≤ length input → LinePromise (recordTurn (houseOf m) lines k (bodyAt k input)) m out left last r
+      → StepPromise m lines ended input out left last (Wrote r)
+  number-whole-step {left} {last} {r} fits p =
+      let same : bodyLength k ≡ 1 + bodyLength k - 1 = omega arith in
+      whole-step m lines ended input out some-input room (ap isKind (sym k-is) ∙ known) (bodyLength k) (ap bodyLength k-is) fits
+      (subst (λ (x : ℕ). LinePromise (recordTurn (houseOf m) lines x (take (1 + bodyLength k - 1) (drop 1 input))) m out left last r) k-is
+      (subst (λ (j : ℕ). LinePromise (recordTurn (houseOf m) lines k (take j (drop 1 input))) m out left last r) same p))
 
 -- WHAT IS LENT IS FIT, OR NOT
 

@@ -1,3 +1,4 @@
+pub mod Numbers
 pub mod Turns
 pub mod Cuts
 pub mod Promises

@@ -1,23 +1,28 @@
 // The house records of an input that comes in parts: a step takes a record, or a line of a listing, and writes its line.
 ghost use mathlib.Core.Path.{_≡_};
+ghost use mathlib.Core.Logic.{_≢_};
 ghost use mathlib.Core.Bool.{true, false};
 ghost use mathlib.Core.List.{[]};
 ghost use Prim.Native.Nat.{_≤_, _<_};
-ghost use lib.ListN.{length};
-ghost use Rattle.meaning.specs.Sizes.{SET-NUMBER-BYTES, NUMBER-BYTES, DIGIT-ROOM};
-ghost use Rattle.meaning.specs.Calls.{LIST, isKind, isCall, bodyLength};
-ghost use Rattle.meaning.specs.Records.{numberLine, refsLine};
-ghost use Rattle.meaning.specs.Answer.{answer};
+ghost use lib.ListN.{length, getD};
+ghost use lib.Dec.{eqb};
+ghost use Rattle.meaning.specs.Sizes.{SET-NUMBER-BYTES};
+ghost use Rattle.meaning.specs.Calls.{LIST, CALL, isKind, isCall, bodyLength};
+ghost use Rattle.meaning.specs.Records.{refsLine};
+ghost use Rattle.meaning.specs.Ledger.{ledgerOf};
 ghost use Rattle.meaning.specs.Answers.{numberOfProvisioned};
 ghost use Rattle.meaning.specs.Reads.{referrerCount};
 ghost use Rattle.meaning.specs.Basics.{word};
 ghost use Rattle.plan.specs.State.{soundOf, stateOf};
-ghost use Rattle.number.specs.Answering.{Known};
+ghost use Rattle.prices.specs.Layout.{rowsIn};
+ghost use Rattle.billing.specs.Lines.{AnsweredPromise};
 ghost use Rattle.text.specs.Writes.{LONGEST, Writes};
 ghost use Rattle.run.specs.Runs.{InRun};
 ghost use Rattle.blocks.specs.Places.{maskTable};
 ghost use Rattle.record.specs.Turns.{recordTurn, isWhole};
+ghost use Rattle.record.specs.Numbers.{hasNumber, bodyAt, NumberAt, GivesPlace};
 ghost use Rattle.record.specs.Promises.{lent, houseOf, planHouse, InHouse, lineOf, ReadPromise, PlanPromise, LinePromise, openedAfter, CutPromise, StepPromise, AnyStepPromise, wholeBehind, wholeAfter};
+use billing::Entered;
 use meaning::Provisioned;
 use meaning::RulePlace;
 use meaning::Totals;
@@ -27,6 +32,8 @@ use meaning::refusals::CUT;
 use meaning::refusals::KIND;
 use meaning::refusals::PLAN;
 use meaning::refusals::RANGE;
+use meaning::sizes::CALL_BYTES;
+use meaning::sizes::CALL_HEAD;
 use meaning::sizes::LEDGER_NUMBERS;
 use meaning::sizes::NUMBER_BYTES;
 use meaning::sizes::RUN_BYTES;
@@ -34,6 +41,8 @@ use meaning::sizes::SET_NUMBER_BYTES;
 
 // The bytes that a record of a kind takes: its kind, and its body.
 const NUMBER_RECORD: usize = 1 + NUMBER_BYTES;
+
+const CALL_RECORD: usize = 1 + CALL_BYTES;
 
 const REFS_RECORD: usize = 1 + SET_NUMBER_BYTES;
 
@@ -93,32 +102,7 @@ fn line_of(taken: usize, written: usize, opened: bool, lines: u16, whole: Totals
     }
 }
 
-// A NUMBER, A COUNT
-
-// The line of a number in range, over a plan that is known to be sound.
-fn answer_line(plan: &[u8], body: &[u8], output: &mut [u8]) -> usize
-    requires { ⌜ Known (now plan) (now body) × (LONGEST ≤ length (now output)) ⌝ }
-    ensures { λ r. ⌜ Writes (numberLine (answer (stateOf (now (plan .entry))) DIGIT-ROOM (now (body .entry)))) (now (output .entry)) (now (output .exit)) r ⌝ }
-{
-    let mut digits = [0u8; number::ANSWER_BYTES];
-    let a = number::answer_held(plan, body, &mut digits);
-    let n = a.digits;
-    text::number_line(a, &digits[0..n], output)
-}
-
-// The line of a number.
-fn number_record(masks: &[u8], plan: &[u8], opened: bool, body: &[u8], output: &mut [u8]) -> usize
-    requires { ⌜ (soundOf (now plan) ≡ opened) × (length (now body) ≡ NUMBER-BYTES) × (LONGEST ≤ length (now output)) × (now masks ≡ maskTable) ⌝ }
-    ensures { λ r. ⌜ Writes (numberLine (answer (stateOf (now (plan .entry))) DIGIT-ROOM (now (body .entry)))) (now (output .entry)) (now (output .exit)) r ⌝ }
-{
-    if !opened {
-        return text::no_line(PLAN, output);
-    }
-    if !ranges::number_in_range_by(masks, body) {
-        return text::no_line(RANGE, output);
-    }
-    answer_line(plan, body, output)
-}
+// A COUNT
 
 // The line of a count of rules naming a set.
 fn refs_record(plan: &[u8], opened: bool, body: &[u8], output: &mut [u8]) -> usize
@@ -156,22 +140,11 @@ fn list_record(plan: &[u8], run: Run, output: &mut [u8]) -> Line
 
 // A RECORD
 
-// A record that reads the plan.
-fn read_record(
-    masks: &[u8],
-    plan: &[u8],
-    run: Run,
-    kind: u8,
-    body: &[u8],
-    output: &mut [u8],
-) -> Line
-    requires { ⌜ (soundOf (now plan) ≡ run .opened) × (isCall kind ≡ false) × (kind ≤ LIST) × (length (now body) ≡ bodyLength kind) × (LONGEST ≤ length (now output)) × (now masks ≡ maskTable) ⌝ }
+// A record that reads the plan, and has no number.
+fn read_record(plan: &[u8], run: Run, kind: u8, body: &[u8], output: &mut [u8]) -> Line
+    requires { ⌜ (soundOf (now plan) ≡ run .opened) × (isCall kind ≡ false) × (kind ≤ LIST) × (hasNumber kind ≡ false) × (length (now body) ≡ bodyLength kind) × (LONGEST ≤ length (now output)) ⌝ }
     ensures { λ r. ⌜ ReadPromise (recordTurn (planHouse (now (plan .entry))) (run .lines) kind (now (body .entry))) (now (plan .entry)) run (now (output .entry)) (now (output .exit)) r ⌝ }
 {
-    if kind == kinds::NUMBER {
-        let answered = number_record(masks, plan, run.opened, body, output);
-        return line_of(NUMBER_RECORD, answered, run.opened, 0, run.whole);
-    }
     if kind == kinds::REFS {
         let counted = refs_record(plan, run.opened, body, output);
         return line_of(REFS_RECORD, counted, run.opened, 0, run.whole);
@@ -193,7 +166,7 @@ fn opened_after(opened: bool, kind: u8, answer: Provisioned) -> bool
 }
 
 // A record that opens or provisions.
-fn call_record(plan: &mut [u8], run: Run, kind: u8, body: &[u8], output: &mut [u8]) -> Line
+fn provision_record(plan: &mut [u8], run: Run, kind: u8, body: &[u8], output: &mut [u8]) -> Line
     requires { ⌜ InRun (now plan) (run .opened) × (isCall kind ≡ true) × (length (now body) ≡ bodyLength kind) × (LONGEST ≤ length (now output)) ⌝ }
     ensures { λ r. ⌜ PlanPromise (recordTurn (planHouse (now (plan .entry))) (run .lines) kind (now (body .entry))) (now (plan .entry)) run (now (output .entry)) (now (plan .exit)) (now (output .exit)) r ⌝ }
 {
@@ -208,56 +181,32 @@ fn call_record(plan: &mut [u8], run: Run, kind: u8, body: &[u8], output: &mut [u
     )
 }
 
-// A record by the plan alone.
-fn plan_record(
-    masks: &[u8],
-    plan: &mut [u8],
-    run: Run,
-    kind: u8,
-    body: &[u8],
-    output: &mut [u8],
-) -> Line
-    requires { ⌜ InRun (now plan) (run .opened) × (kind ≤ LIST) × (length (now body) ≡ bodyLength kind) × (LONGEST ≤ length (now output)) × (now masks ≡ maskTable) ⌝ }
+// A record by the plan alone that has no number.
+fn plan_record(plan: &mut [u8], run: Run, kind: u8, body: &[u8], output: &mut [u8]) -> Line
+    requires { ⌜ InRun (now plan) (run .opened) × (kind ≤ LIST) × (hasNumber kind ≡ false) × (length (now body) ≡ bodyLength kind) × (LONGEST ≤ length (now output)) ⌝ }
     ensures { λ r. ⌜ PlanPromise (recordTurn (planHouse (now (plan .entry))) (run .lines) kind (now (body .entry))) (now (plan .entry)) run (now (output .entry)) (now (plan .exit)) (now (output .exit)) r ⌝ }
 {
     if kinds::is_call(kind) {
-        return call_record(plan, run, kind, body, output);
+        return provision_record(plan, run, kind, body, output);
     }
-    read_record(masks, plan, run, kind, body, output)
+    read_record(plan, run, kind, body, output)
 }
 
-// A record of C-11: a call, a row of the price list, the losses.
-fn month_record(
-    masks: &[u8],
-    plan: &[u8],
+// A whole record that has no number: by the plan alone, a row of the price list, or the losses.
+fn whole_record(
+    plan: &mut [u8],
     prices: &mut [u8],
-    districts: &mut [i64; LEDGER_NUMBERS],
+    districts: &[i64; LEDGER_NUMBERS],
     run: Run,
     kind: u8,
     body: &[u8],
     output: &mut [u8],
 ) -> Line
-    requires { ⌜ InHouse (lent (now plan) (now prices) (now districts) (run .whole)) (run .opened) × (LIST < kind) × (isKind kind ≡ true) × (length (now body) ≡ bodyLength kind) × (LONGEST ≤ length (now output)) × (now masks ≡ maskTable) ⌝ }
-    ensures { λ r. ⌜ LinePromise (recordTurn (houseOf (lent (now (plan .entry)) (now (prices .entry)) (now (districts .entry)) (run .whole))) (run .lines) kind (now (body .entry))) (lent (now (plan .entry)) (now (prices .entry)) (now (districts .entry)) (run .whole)) (now (output .entry)) (lent (now (plan .entry)) (now (prices .exit)) (now (districts .exit)) (r .run .whole)) (now (output .exit)) r ⌝ }
+    requires { ⌜ InHouse (lent (now plan) (now prices) (now districts) (run .whole)) (run .opened) × (isKind kind ≡ true) × (hasNumber kind ≡ false) × (length (now body) ≡ bodyLength kind) × (LONGEST ≤ length (now output)) ⌝ }
+    ensures { λ r. ⌜ LinePromise (recordTurn (houseOf (lent (now (plan .entry)) (now (prices .entry)) (now (districts .entry)) (run .whole))) (run .lines) kind (now (body .entry))) (lent (now (plan .entry)) (now (prices .entry)) (now (districts .entry)) (run .whole)) (now (output .entry)) (lent (now (plan .exit)) (now (prices .exit)) (now (districts .entry)) (r .run .whole)) (now (output .exit)) r ⌝ }
 {
-    if kind == kinds::CALL {
-        let entered = billing::charge_record(
-            masks,
-            plan,
-            run.opened,
-            prices,
-            districts,
-            run.whole,
-            body,
-            output,
-        );
-        return line_of(
-            1 + body.len(),
-            entered.written,
-            run.opened,
-            0,
-            entered.whole,
-        );
+    if kind <= kinds::LIST {
+        return plan_record(plan, run, kind, body, output);
     }
     if kind == kinds::PRICE {
         let added = billing::price_record(prices, body, output);
@@ -270,24 +219,80 @@ fn month_record(
     line_of(0, reported.written, run.opened, reported.next, run.whole)
 }
 
-// A whole record: by the plan alone, or one of C-11.
-fn whole_record(
+// A NUMBER
+
+// Whether a record of a kind has a number: alone, or in a call record.
+fn has_number(kind: u8) -> bool
+    ensures { λ r. ⌜ r ≡ hasNumber kind ⌝ }
+{
+    if kind == kinds::NUMBER {
+        return true;
+    }
+    kind == kinds::CALL
+}
+
+// Where the number of a record at the front of the input begins; or the record is cut, or it is refused before its number is looked at.
+pub enum NumberPlace {
+    At(usize),
+    Cut,
+    Refused(u8),
+}
+
+fn number_place(opened: bool, kind: u8, input: &[u8]) -> NumberPlace
+    requires { ⌜ hasNumber kind ≡ true ⌝ }
+    ensures { λ r. ⌜ GivesPlace opened kind (now (input .entry)) r ⌝ }
+{
+    if kind == kinds::NUMBER {
+        if input.len() < NUMBER_RECORD {
+            return NumberPlace::Cut;
+        }
+        if !opened {
+            return NumberPlace::Refused(PLAN);
+        }
+        return NumberPlace::At(1);
+    }
+    if input.len() < CALL_RECORD {
+        return NumberPlace::Cut;
+    }
+    if !opened {
+        return NumberPlace::Refused(PLAN);
+    }
+    if !charging::head_in_range(&input[1..CALL_RECORD]) {
+        return NumberPlace::Refused(RANGE);
+    }
+    NumberPlace::At(1 + CALL_HEAD)
+}
+
+// The line of a record whose number begins at a place of the input.
+fn number_line(
     masks: &[u8],
-    plan: &mut [u8],
-    prices: &mut [u8],
+    plan: &[u8],
+    prices: &[u8],
     districts: &mut [i64; LEDGER_NUMBERS],
     run: Run,
     kind: u8,
-    body: &[u8],
+    at: usize,
+    input: &[u8],
     output: &mut [u8],
-) -> Line
-    requires { ⌜ InHouse (lent (now plan) (now prices) (now districts) (run .whole)) (run .opened) × (isKind kind ≡ true) × (length (now body) ≡ bodyLength kind) × (LONGEST ≤ length (now output)) × (now masks ≡ maskTable) ⌝ }
-    ensures { λ r. ⌜ LinePromise (recordTurn (houseOf (lent (now (plan .entry)) (now (prices .entry)) (now (districts .entry)) (run .whole))) (run .lines) kind (now (body .entry))) (lent (now (plan .entry)) (now (prices .entry)) (now (districts .entry)) (run .whole)) (now (output .entry)) (lent (now (plan .exit)) (now (prices .exit)) (now (districts .exit)) (r .run .whole)) (now (output .exit)) r ⌝ }
+) -> Entered
+    requires { ⌜ InHouse (lent (now plan) (now prices) (now districts) (run .whole)) (run .opened) × (run .opened ≡ true) × NumberAt kind (now input) at × (LONGEST ≤ length (now output)) × (now masks ≡ maskTable) ⌝ }
+    ensures { λ r. ⌜ AnsweredPromise (eqb kind CALL) (stateOf (now (plan .entry))) (rowsIn (now (prices .entry))) (ledgerOf (now (districts .entry)) (run .whole)) (bodyAt kind (now (input .entry))) (now (output .entry)) (ledgerOf (now (districts .exit)) (r .whole)) (now (output .exit)) (r .written) ⌝ }
 {
-    if kind <= kinds::LIST {
-        return plan_record(masks, plan, run, kind, body, output);
+    let end = at + NUMBER_BYTES;
+    let number = &input[at..end];
+    if !ranges::number_in_range_by(masks, number) {
+        return billing::refused_line(RANGE, run.whole, output);
     }
-    month_record(masks, plan, prices, districts, run, kind, body, output)
+    billing::answered_line(
+        plan,
+        prices,
+        districts,
+        run.whole,
+        kind == kinds::CALL,
+        &input[1..end],
+        number,
+        output,
+    )
 }
 
 // A STEP
@@ -314,6 +319,41 @@ pub fn is_whole(input: &[u8]) -> bool
         return false;
     }
     kinds::body_length(input[0]) < input.len()
+}
+
+// A step over an input that begins with a record that has a number, for which the output has room.
+fn number_step(
+    masks: &[u8],
+    plan: &[u8],
+    prices: &[u8],
+    districts: &mut [i64; LEDGER_NUMBERS],
+    run: Run,
+    kind: u8,
+    ended: bool,
+    input: &[u8],
+    output: &mut [u8],
+) -> Stepped
+    requires { ⌜ InHouse (lent (now plan) (now prices) (now districts) (run .whole)) (run .opened) × (now masks ≡ maskTable) × (length (now input) ≢ 0) × (kind ≡ getD (now input) 0 0) × (hasNumber kind ≡ true) × (LONGEST ≤ length (now output)) ⌝ }
+    ensures { λ r. ⌜ StepPromise (lent (now (plan .entry)) (now (prices .entry)) (now (districts .entry)) (run .whole)) (run .lines) ended (now (input .entry)) (now (output .entry)) (lent (now (plan .entry)) (now (prices .entry)) (now (districts .exit)) (wholeBehind (run .whole) r)) (now (output .exit)) r ⌝ }
+{
+    match number_place(run.opened, kind, input) {
+        NumberPlace::Cut => cut_record(ended, output),
+        NumberPlace::Refused(number) => {
+            let refused = text::no_line(number, output);
+            Stepped::Wrote(line_of(
+                1 + kinds::body_length(kind),
+                refused,
+                run.opened,
+                0,
+                run.whole,
+            ))
+        }
+        NumberPlace::At(at) => {
+            let entered = number_line(masks, plan, prices, districts, run, kind, at, input, output);
+            let left = entered.whole;
+            Stepped::Wrote(line_of(at + NUMBER_BYTES, entered.written, true, 0, left))
+        }
+    }
 }
 
 // One step: a record of the input at hand, or a line of one that has more, whose line goes to the front of the output. Whether the memory holds a sound plan is known,
@@ -344,6 +384,19 @@ pub fn step_by(
         return Stepped::Full;
     }
     let kind = input[0];
+    if has_number(kind) {
+        return number_step(
+            masks,
+            plan,
+            prices,
+            districts,
+            run,
+            kind,
+            ended,
+            input,
+            output,
+        );
+    }
     if !kinds::is_kind(kind) {
         return Stepped::Ends(Last {
             written: text::no_line(KIND, output),
@@ -354,16 +407,7 @@ pub fn step_by(
     if input.len() < end {
         return cut_record(ended, output);
     }
-    Stepped::Wrote(whole_record(
-        masks,
-        plan,
-        prices,
-        districts,
-        run,
-        kind,
-        &input[1..end],
-        output,
-    ))
+    Stepped::Wrote(whole_record(plan, prices, districts, run, kind, &input[1..end], output))
 }
 
 // The same for one step.

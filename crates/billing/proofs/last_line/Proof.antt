@@ -17,7 +17,7 @@ total-line-requires c κs =
 returns : tie.Need-returns
 returns c =
     let g = c .before .before .before .before .before .before .before in
-    (total-written (g .args .whole) _ (read-cents (g .args .whole) _ (whole-sized (g .args .districts .now) (g .args .whole) (g .pre .0)) (c .before .before .before .before .before .loss-of .ensures)) (c .before .before .total-line .ensures), refl)
+    (total-written (g .args .whole) _ (read-cents (g .args .whole) _ (whole-sized (g .args .districts .now) (g .args .whole) (g .pre .0)) (c .before .before .before .before .before .loss-of .ensures)) (c .before .before .total-line .ensures), refl, refl)
 
 pub last-line-spec : {M : Type 1} → statement M
 last-line-spec =

@@ -10,7 +10,7 @@ use Rattle.billing.proofs.loss_record.Tie as tie
 returns : tie.Need-returns
 returns c =
     let g = c .before .before .before .before .before .before in
-    all-counted (ledgerOf (g .args .districts .now) (g .args .whole)) (g .args .lines) (c .before .before .before .before .if1 .taken) (c .before .before .last-line .ensures .0) (c .before .before .last-line .ensures .1)
+    all-counted (ledgerOf (g .args .districts .now) (g .args .whole)) (g .args .lines) (c .before .before .before .before .if1 .taken) (c .before .before .last-line .ensures .0) (c .before .before .last-line .ensures .1) (c .before .before .last-line .ensures .2)
 
 next-district-requires : tie.Need-next-district-requires
 next-district-requires c κs = omega (arith, c .if1 .left)
@@ -18,7 +18,7 @@ next-district-requires c κs = omega (arith, c .if1 .left)
 returns-2 : tie.Need-returns-2
 returns-2 c =
     let g = c .before .before .before .before .before .before .before .before in
-    none-left (ledgerOf (g .args .districts .now) (g .args .whole)) (g .args .lines) _ (c .before .before .before .before .before .before .if1 .left) (c .before .before .before .before .before .next-district .ensures) (c .before .before .before .before .if2 .taken) (c .before .before .last-line2 .ensures .0) (c .before .before .last-line2 .ensures .1)
+    none-left (ledgerOf (g .args .districts .now) (g .args .whole)) (g .args .lines) _ (c .before .before .before .before .before .before .if1 .left) (c .before .before .before .before .before .next-district .ensures) (c .before .before .before .before .if2 .taken) (c .before .before .last-line2 .ensures .0) (c .before .before .last-line2 .ensures .1) (c .before .before .last-line2 .ensures .2)
 
 add-t15 : tie.Need-add-t15
 add-t15 c = record { fits = omega (arith, c .before .before .before .before .if2 .left) }

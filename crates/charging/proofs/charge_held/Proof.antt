@@ -1,9 +1,8 @@
--- The number's own refusal, NO PRICE, or the entry.
+-- The number's own refusal, that of the charge, or the answer.
 use mathlib.Core.Path.{refl}
-use Rattle.charging.proofs.Ranges.{in-range, number-long}
 use Rattle.meaning.specs.Charges.{callRecordOf}
-use Rattle.charging.proofs.Dues.{due-small}
-use Rattle.charging.proofs.Charging.{holds-inside, holds-own, holds-no-price, holds-entered}
+use Rattle.charging.proofs.Ranges.{in-range, number-long}
+use Rattle.charging.proofs.Charging.{holds-inside, holds-own, holds-refusal, holds-answer}
 use borrow.Author.Needs.{needs}
 use Rattle.charging.proofs.charge_held.Statement.{statement}
 use Rattle.charging.proofs.charge_held.Tie as tie
@@ -20,22 +19,21 @@ returns : tie.Need-returns
 unfolding callRecordOf
 returns c = holds-own (c .before .before .before .before .before .before .before .before .before .before .before .pre .0) (c .before .before .before .before .answer-held .ensures) (c .if1 .taken)
 
-part-due-of-end : tie.Need-part-due-of-end
-part-due-of-end c = holds-inside (c .before .before .before .before .before .answer-held .ensures)
+part-charge-end : tie.Need-part-charge-end
+part-charge-end c = holds-inside (c .before .before .before .before .before .before .answer-held .ensures)
 
-due-of-requires : tie.Need-due-of-requires
-due-of-requires c κs = let g = c .before .before .before .before .before .before .before .before .before .before .before .before .before in (g .pre .0 .prices-in, g .pre .0 .whole, g .pre .0 .range)
-
-enter-requires : tie.Need-enter-requires
-enter-requires c κs = let g = c .before .before .before .before .before .before .before .before .before .before .before .before .before .before .before .before .before .before in (g .pre .0 .ledger-in, g .pre .0 .whole, g .pre .0 .range, due-small (c .before .before .before .before .due-of .ensures) (c .before .before .due .given .1))
+charge-requires : tie.Need-charge-requires
+charge-requires c κs e =
+    let k = c .before .before .before .before .before .before .before .before .before .before .before .before .before .before .pre .0 in
+    record { prices-in = k .prices-in; ledger-in = k .ledger-in; whole = k .whole; range = k .range }
 
 returns-2 : tie.Need-returns-2
 unfolding callRecordOf
-returns-2 c = rw (c .refused .ensures) (holds-no-price (c .before .before .before .before .before .before .before .before .before .before .before .before .before .before .before .before .before .pre .0) (c .before .before .before .before .before .before .before .before .before .before .answer-held .ensures) (c .before .before .before .before .before .before .if1 .left) (c .before .before .before .due-of .ensures) (c .before .enum-told .given .1) refl)
+returns-2 c = rw (c .refused .ensures) (holds-refusal (c .before .before .before .before .before .before .before .before .before .before .before .before .before .before .before .before .before .before .before .pre .0) (c .before .before .before .before .before .before .before .before .before .before .before .before .answer-held .ensures) (c .before .before .before .before .before .before .before .before .if1 .left) (c .before .before .before .before .charge .ensures .charges refl) (c .before .if2 .taken) refl)
 
 returns-3 : tie.Need-returns-3
 unfolding callRecordOf
-returns-3 c = holds-entered (c .before .before .before .before .before .before .before .before .before .before .before .before .before .before .before .before .before .before .before .pre .0) (c .before .before .before .before .before .before .before .before .before .before .before .before .answer-held .ensures) (c .before .before .before .before .before .before .before .before .if1 .left) _ (c .before .before .before .before .before .due-of .ensures) (c .before .before .before .due .given .1) (c .enter .ensures)
+returns-3 c = holds-answer (c .before .before .before .before .before .before .before .before .before .before .before .before .before .before .before .before .before .before .pre .0) (c .before .before .before .before .before .before .before .before .before .before .before .answer-held .ensures) (c .before .before .before .before .before .before .before .if1 .left) (c .before .before .before .charge .ensures .charges refl) (c .if2 .left)
 
 pub charge-held-spec : {M : Type 1} → statement M
 charge-held-spec =
@@ -49,12 +47,9 @@ charge-held-spec =
     returns
     (λ c. search needs)
     (λ c. search needs)
-    part-due-of-end
-    due-of-requires
-    (λ c. search needs)
+    part-charge-end
+    charge-requires
     (λ c κs. search needs)
-    (λ c. search needs)
-    enter-requires
     (λ c. search needs)
     returns-2
     (λ c. search needs)

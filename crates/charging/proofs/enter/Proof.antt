@@ -9,7 +9,7 @@ use Rattle.charging.proofs.enter.Statement.{statement}
 use Rattle.charging.proofs.enter.Tie as tie
 
 returns : tie.Need-returns
-returns c = rw (c .refused .ensures) (enters-full _ _ _ (sym (c .before .before .is-full .ensures) ∙ c .before .if1 .taken) refl)
+returns c = enters-full _ _ _ (sym (c .before .is-full .ensures) ∙ c .if1 .taken) refl
 
 mul-billed : tie.Need-mul-billed
 mul-billed c = record { fits = omega (arith, c .quad .ensures .small) }
@@ -27,13 +27,15 @@ enter-requires c κs =
     }
 
 returns-2 : tie.Need-returns-2
-returns-2 c = enters _ _ _ (sym (c .before .before .before .before .before .is-full .ensures) ∙ c .before .before .before .before .if1 .left) (c .enter .ensures ∙ ap (λ (e : Entry). entered e (ledgerOf (c .before .before .before .before .before .before .before .args .districts .now) (c .before .before .before .before .before .before .before .args .whole))) (entry-is (c .before .before .before .before .before .before .before .args .body .now) _ (c .before .before .before .word .ensures .is) (c .before .before .quad .ensures .is)))
+returns-2 c =
+    let g = c .before .before .before .before .before .before .before in
+    enters _ _ _ (sym (c .before .before .before .before .before .is-full .ensures) ∙ c .before .before .before .before .if1 .left)
+    (c .enter .ensures ∙ ap (λ (e : Entry). entered e (ledgerOf (g .args .districts .now) (g .args .whole))) (entry-is (g .args .body .now) _ (c .before .before .before .word .ensures .is) (c .before .before .quad .ensures .is)))
 
 pub enter-spec : {M : Type 1} → statement M
 enter-spec =
     tie.close
     (tie.spec
-    (λ c κs. search needs)
     (λ c κs. search needs)
     returns
     (λ c κs. search needs)
