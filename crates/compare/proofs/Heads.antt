@@ -10,7 +10,7 @@ use Rattle.meaning.specs.Filters.{filter_of, compare_filters}
 use Rattle.meaning.specs.Rules.{Rule, filter_in}
 use Rattle.meaning.specs.Plan.{Plan, held}
 use Rattle.meaning.specs.Compare.{LEFT-ONLY, RIGHT-ONLY, IN-BOTH, same_content, differ}
-use Rattle.meaning.specs.Answers.{orderingOf}
+use Rattle.meaning.specs.Answers.{ordering_of}
 use Rattle.meaning.specs.declared.Order.{Order}
 use Rattle.meaning.specs.declared.Order.TheVariants.{Before, Same, After}
 use Rattle.plan.specs.Layout.{rule_count, plan_of}
@@ -43,15 +43,15 @@ module _ (left right : List ℕ) (i j : ℕ) (there : (i + 1 ≤ rule_count left
       let r : j < length q.rules = omega (arith, rule_count_is right, there.1) in
       sym (both_there p q i j l r ∙ ap₂ kind_by o_is b-is)
 
-  module _ (s t : List ℕ) (o : Order) (left-slot : RuleSlot x s) (right-slot : RuleSlot y t) (o_is : orderingOf o ≡ compare_filters (filter_of s) (filter_of t)) where
-    order_is : compare_filters (filter_in x) (filter_in y) ≡ orderingOf o
+  module _ (s t : List ℕ) (o : Order) (left-slot : RuleSlot x s) (right-slot : RuleSlot y t) (o_is : ordering_of o ≡ compare_filters (filter_of s) (filter_of t)) where
+    order_is : compare_filters (filter_in x) (filter_in y) ≡ ordering_of o
     order_is = sym (o_is ∙ ap₂ compare_filters left-slot.filter right-slot.filter)
 
     pub kind_before : o ≡ Before → LEFT-ONLY ≡ kind_at p q i j
-    kind_before e = by_kind Ordering.lt (differ p q x y) (order_is ∙ ap orderingOf e) refl
+    kind_before e = by_kind Ordering.lt (differ p q x y) (order_is ∙ ap ordering_of e) refl
 
     pub kind_after : o ≡ After → RIGHT-ONLY ≡ kind_at p q i j
-    kind_after e = by_kind Ordering.gt (differ p q x y) (order_is ∙ ap orderingOf e) refl
+    kind_after e = by_kind Ordering.gt (differ p q x y) (order_is ∙ ap ordering_of e) refl
 
     module _ (e : o ≡ Same) (b : Bool) (b-is : b ≡ same_content_at p q i j) where
       differ_is : differ p q x y ≡ not b
@@ -59,7 +59,7 @@ module _ (left right : List ℕ) (i j : ℕ) (there : (i + 1 ≤ rule_count left
       differ_is = ap not (sym b-is)
 
       pub kind_alike : b ≡ true → ALIKE ≡ kind_at p q i j
-      kind_alike same = by_kind Ordering.eq false (order_is ∙ ap orderingOf e) (differ_is ∙ ap not same)
+      kind_alike same = by_kind Ordering.eq false (order_is ∙ ap ordering_of e) (differ_is ∙ ap not same)
 
       pub kind_both : b ≡ false → IN-BOTH ≡ kind_at p q i j
-      kind_both other = by_kind Ordering.eq true (order_is ∙ ap orderingOf e) (differ_is ∙ ap not other)
+      kind_both other = by_kind Ordering.eq true (order_is ∙ ap ordering_of e) (differ_is ∙ ap not other)

@@ -14,7 +14,7 @@ use Rattle.meaning.specs.Sizes.{CLASS-AT, PREFIX-AT, PREFIX-DIGITS-AT, LENGTH-AT
 use Rattle.meaning.specs.Basics.{if◌then◌else◌, all, all_of, within, is_zero, is_digit, digits_of, digits_in_range, begins_with}
 use Rattle.meaning.specs.Settings.{is_class}
 use Rattle.meaning.specs.Filters.{filter_of, filter_in_range}
-use Rattle.meaning.specs.Answers.{class_of, classNumbered}
+use Rattle.meaning.specs.Answers.{class_of, class_numbered}
 use Rattle.meaning.specs.declared.Class.{Class}
 use Rattle.meaning.specs.declared.ClassOf.{ClassOf}
 use Rattle.meaning.specs.declared.ClassOf.TheVariants.{Known, Unknown}
@@ -60,13 +60,13 @@ class_known b c e = go (is_class b) refl
   where
     go : (t : Bool) → is_class b ≡ t → t ≡ true
     go true q = refl
-    go false q = let x : Unknown ≡ Known c = sym (ap (λ t. if t then Known (classNumbered b) else Unknown) q) ∙ e in cc
+    go false q = let x : Unknown ≡ Known c = sym (ap (λ t. if t then Known (class_numbered b) else Unknown) q) ∙ e in cc
 
 class_unknown : (b : ℕ) → class_of b ≡ Unknown → is_class b ≡ false
 class_unknown b e = go (is_class b) refl
   where
     go : (t : Bool) → is_class b ≡ t → t ≡ false
-    go true q = let x : Known (classNumbered b) ≡ Unknown = sym (ap (λ t. if t then Known (classNumbered b) else Unknown) q) ∙ e in cc
+    go true q = let x : Known (class_numbered b) ≡ Unknown = sym (ap (λ t. if t then Known (class_numbered b) else Unknown) q) ∙ e in cc
     go false q = refl
 
 module _ (s : List ℕ) where

@@ -3,7 +3,7 @@ ghost use Rattle.std.specs.Prelude.{◌≡◌, ◌+◌, ◌*◌, ◌≤◌, ◌<
 ghost use Rattle.meaning.specs.Sizes.{FILTER-BYTES, RULE-WIDTH};
 ghost use Rattle.meaning.specs.Basics.{begins_with};
 ghost use Rattle.meaning.specs.Filters.{filter_of, filter_in_range, compare_prefixes, compare_lengths, compare_filters};
-ghost use Rattle.meaning.specs.Answers.{orderingOf, setOf};
+ghost use Rattle.meaning.specs.Answers.{ordering_of, set_of};
 ghost use Rattle.blocks.specs.Places.{mask_table};
 ghost use Rattle.filter.specs.Slots.{FilterBytes, RuleArea, rule_of, rules_of};
 ghost use Rattle.filter.specs.Place.{filter_place, place_given};
@@ -61,7 +61,7 @@ pub fn begins_with(prefix: &[u8], digits: &[u8]) -> bool
 
 // The order of two prefixes as digits, the shorter first where one begins the other.
 pub fn order_prefixes(a: &[u8], b: &[u8]) -> Order
-    ensures { orderingOf result ≡ compare_prefixes a.now b.now }
+    ensures { ordering_of result ≡ compare_prefixes a.now b.now }
 {
     let mut i: usize = 0;
     while i < a.len() {
@@ -84,7 +84,7 @@ pub fn order_prefixes(a: &[u8], b: &[u8]) -> Order
 
 // The order of two filter lengths: stated lengths rising, the wildcard last.
 pub fn order_lengths(l: u8, m: u8) -> Order
-    ensures { orderingOf result ≡ compare_lengths l m }
+    ensures { ordering_of result ≡ compare_lengths l m }
 {
     if l == m {
         return Order::Same;
@@ -105,7 +105,7 @@ pub fn order_lengths(l: u8, m: u8) -> Order
 pub fn order_filters(a: &[u8], b: &[u8]) -> Order
     requires filter_bytes { FilterBytes a.now }
     requires filter_bytes_2 { FilterBytes b.now }
-    ensures { orderingOf result ≡ compare_filters (filter_of a.now) (filter_of b.now) }
+    ensures { ordering_of result ≡ compare_filters (filter_of a.now) (filter_of b.now) }
 {
     if a[CLASS_AT] < b[CLASS_AT] {
         return Order::Before;
@@ -145,7 +145,7 @@ pub fn find(rules: &[u8], count: usize, code: &[u8]) -> FilterPlace
 // The number of the set that the rule at a place names.
 pub fn set_at(rules: &[u8], place: RulePlace) -> SetNumber
     requires { RULE-WIDTH * place.0 + RULE-WIDTH ≤ length rules.now }
-    ensures { result ≡ setOf (rule_of (take RULE-WIDTH (drop (RULE-WIDTH * place.0) rules.now))).set }
+    ensures { result ≡ set_of (rule_of (take RULE-WIDTH (drop (RULE-WIDTH * place.0) rules.now))).set }
 {
     let k = place.0 as usize;
     let n = buffer::word(rules, RULE_WIDTH * k + SET_AT);

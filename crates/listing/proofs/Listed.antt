@@ -15,7 +15,7 @@ use Rattle.meaning.specs.Rules.{filter_in}
 use Rattle.meaning.specs.Plan.{Plan}
 use Rattle.meaning.specs.History.{no_rule}
 use Rattle.meaning.specs.Reads.{listed, listing, listed_or, rule_at_place}
-use Rattle.meaning.specs.Answers.{setOf, rule_listed}
+use Rattle.meaning.specs.Answers.{set_of, rule_listed}
 use Rattle.meaning.specs.declared.SetNumber.{SetNumber}
 use Rattle.meaning.specs.declared.Refusal.TheVariants.{Plan as NoPlan}
 use Rattle.meaning.specs.declared.Counted.TheVariants.{Rules, Refused as NotCounted}
@@ -80,7 +80,7 @@ copied_padded n xs = ap (λ (ys : List ℕ). xs ++ ys) (drop_replicate (length x
 
 -- as it is read from its slot: n is its prefix's length, and `copied` its prefix over unused bytes
 pub rule_read : (m s copied : List ℕ) (k n : ℕ) (set : SetNumber) → k < rule_count m → RuleSlot (rule_placed m k) s → n ≡ get_or s PREFIX-AT 0
-    → copied ≡ written_over (take (PREFIX-DIGITS-AT + n - PREFIX-DIGITS-AT) (drop PREFIX-DIGITS-AT s)) (replicate 16 0) → set ≡ setOf (rule_placed m k).set
+    → copied ≡ written_over (take (PREFIX-DIGITS-AT + n - PREFIX-DIGITS-AT) (drop PREFIX-DIGITS-AT s)) (replicate 16 0) → set ≡ set_of (rule_placed m k).set
     → record { refusal = 0; class = get_or s CLASS-AT 0; digits = get_or s PREFIX-AT 0; prefix = copied; length = get_or s LENGTH-AT 0; set = set } ≡ rule_listed (rule_at_place (some (plan_of m)) k)
 unfolding filter_of
 rule_read m s copied k n set below slot n-is copied_is set_is =

@@ -30,7 +30,7 @@ use Rattle.meaning.specs.Prices.{PriceRow, row_given, row_in_range, row_weight, 
 use Rattle.meaning.specs.Ledger.{LEDGER-LIMIT, Ledger, ledger_of, totals_of, empty_ledger, sum_in_range, totals_in_range, ledger_in_range, is_full, Entry, plus, with_totals, entered, cents}
 use Rattle.meaning.specs.Charges.{CallRecord, call_record_of, call_in_range, priced_on, due_of, entry_of, charge_lines, taking_refusal, charged, ledger_after}
 use Rattle.meaning.specs.Records.{decimal, digit_text, ok_line, no_line, number_line, refs_line, listed_line, end_line, loss_line, total_line, loss_text, lacks_program_room, record_text, record_house, house_with, text_from, file_text, End, file_end}
-use Rattle.meaning.specs.Answers.{code_of, class_of, outgoingOf, numberOfRefusal}
+use Rattle.meaning.specs.Answers.{code_of, class_of, outgoing_of, number_of_refusal}
 use Rattle.meaning.specs.declared.ClassOf.{ClassOf}
 use Rattle.meaning.specs.declared.ClassOf.TheVariants.{Known, Unknown as UnknownClass}
 use Rattle.meaning.specs.declared.OutgoingOf.{OutgoingOf}
@@ -665,12 +665,12 @@ pub numbered : List Row
 numbered =
     -- the table's thirteen, in its order
     row
-    (map numberOfRefusal (Cut ∷ Kind ∷ PlanRefused ∷ Room ∷ Range ∷ Groups ∷ Taken ∷ Absent ∷ Misfit ∷ Full ∷ InUse ∷ Short ∷ Long ∷ []))
+    (map number_of_refusal (Cut ∷ Kind ∷ PlanRefused ∷ Room ∷ Range ∷ Groups ∷ Taken ∷ Absent ∷ Misfit ∷ Full ∷ InUse ∷ Short ∷ Long ∷ []))
     (1 ∷ 2 ∷ 3 ∷ 4 ∷ 5 ∷ 6 ∷ 7 ∷ 8 ∷ 9 ∷ 10 ∷ 11 ∷ 12 ∷ 13 ∷ []) refl
     -- "Classes are INTL 0, NATL 1, UNKNOWN 2, and three house classes 3, 4, 5"
     ∷ row (map (λ c. shown_class (class_of c)) (0 ∷ 1 ∷ 2 ∷ 3 ∷ 4 ∷ 5 ∷ 6 ∷ 255 ∷ [])) (0 ∷ 1 ∷ 2 ∷ 3 ∷ 4 ∷ 5 ∷ 256 ∷ 256 ∷ []) refl
     -- "An outgoing class is 0 to 5, or 255"
-    ∷ row (map (λ c. shown_outgoing (outgoingOf c)) (0 ∷ 1 ∷ 2 ∷ 3 ∷ 4 ∷ 5 ∷ 6 ∷ 254 ∷ 255 ∷ [])) (0 ∷ 1 ∷ 2 ∷ 3 ∷ 4 ∷ 5 ∷ 256 ∷ 256 ∷ 255 ∷ []) refl
+    ∷ row (map (λ c. shown_outgoing (outgoing_of c)) (0 ∷ 1 ∷ 2 ∷ 3 ∷ 4 ∷ 5 ∷ 6 ∷ 254 ∷ 255 ∷ [])) (0 ∷ 1 ∷ 2 ∷ 3 ∷ 4 ∷ 5 ∷ 256 ∷ 256 ∷ 255 ∷ []) refl
     ∷ []
 
 -- THE LOSS BY DISTRICT (C-11)

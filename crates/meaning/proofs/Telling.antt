@@ -6,7 +6,7 @@ use mathlib.Core.Bool.{Bool, true, false, not}
 use native.Mathlib.Omega.{arith}
 use borrow.Author.Tests.{not-true, not-false}
 use Rattle.meaning.specs.Basics.{if◌then◌else◌}
-use Rattle.meaning.specs.Answers.{numberOfRefusal, numberOfProvisioned}
+use Rattle.meaning.specs.Answers.{number_of_refusal, number_of_provisioned}
 use Rattle.meaning.specs.declared.Refusal.{Refusal}
 use Rattle.meaning.specs.declared.Refusal.TheVariants.{Cut, Kind, Plan, Room, Range, Groups, Taken, Absent, Misfit, Full, InUse, Short, Long, NoPrice, LedgerFull}
 use Rattle.meaning.specs.declared.Provisioned.{Provisioned}
@@ -41,11 +41,11 @@ pub ruleset checks = (refuses, goes_on, refuses_unless, goes_on_where)
 -- THE NUMBER OF AN ANSWER
 
 -- the number of the case that was answered
-pub answered : {r case : Provisioned} {n : ℕ} → numberOfProvisioned r ≡ n → r ≡ case → n ≡ numberOfProvisioned case
-answered e h = sym e ∙ ap numberOfProvisioned h
+pub answered : {r case : Provisioned} {n : ℕ} → number_of_provisioned r ≡ n → r ≡ case → n ≡ number_of_provisioned case
+answered e h = sym e ∙ ap number_of_provisioned h
 
 -- a refusal's number is not 0
-pub refusal_number : (r : Refusal) → numberOfRefusal r ≢ 0
+pub refusal_number : (r : Refusal) → number_of_refusal r ≢ 0
 refusal_number Cut e = omega (arith, e)
 refusal_number Kind e = omega (arith, e)
 refusal_number Plan e = omega (arith, e)

@@ -41,54 +41,54 @@ use Rattle.meaning.specs.declared.ListedRule.{ListedRule}
 abbrev pub code_of : Class → ℕ
 code_of c = c.0
 
-abbrev pub classNumbered : ℕ → Class
-classNumbered c = record { 0 = c }
+abbrev pub class_numbered : ℕ → Class
+class_numbered c = record { 0 = c }
 
 -- the class of a byte, or that it is none
 abbrev pub class_of : ℕ → ClassOf
-class_of c = if is_class c then Known (classNumbered c) else UnknownClass
+class_of c = if is_class c then Known (class_numbered c) else UnknownClass
 
-abbrev pub outgoingOf : ℕ → OutgoingOf
-outgoingOf c = if eqb c AS-INCOMING then AsIncoming else if is_class c then Given (classNumbered c) else UnknownOutgoing
+abbrev pub outgoing_of : ℕ → OutgoingOf
+outgoing_of c = if eqb c AS-INCOMING then AsIncoming else if is_class c then Given (class_numbered c) else UnknownOutgoing
 
 -- SET NUMBERS AND PLACES
 
-abbrev pub setOf : ℕ → SetNumber
-setOf n = record { 0 = n }
+abbrev pub set_of : ℕ → SetNumber
+set_of n = record { 0 = n }
 
 abbrev pub place_of : ℕ → RulePlace
 place_of k = record { 0 = k }
 
 -- REFUSALS
 
-abbrev pub numberOfRefusal : Refusal → ℕ
-numberOfRefusal Cut = CUT
-numberOfRefusal Kind = KIND
-numberOfRefusal Plan = PLAN
-numberOfRefusal Room = ROOM
-numberOfRefusal Range = RANGE
-numberOfRefusal Groups = GROUPS
-numberOfRefusal Taken = TAKEN
-numberOfRefusal AbsentRefusal = ABSENT
-numberOfRefusal Misfit = MISFIT
-numberOfRefusal Full = FULL
-numberOfRefusal InUse = IN-USE
-numberOfRefusal Short = SHORT
-numberOfRefusal Long = LONG
-numberOfRefusal NoPrice = NO-PRICE
-numberOfRefusal LedgerFull = LEDGER-FULL
+abbrev pub number_of_refusal : Refusal → ℕ
+number_of_refusal Cut = CUT
+number_of_refusal Kind = KIND
+number_of_refusal Plan = PLAN
+number_of_refusal Room = ROOM
+number_of_refusal Range = RANGE
+number_of_refusal Groups = GROUPS
+number_of_refusal Taken = TAKEN
+number_of_refusal AbsentRefusal = ABSENT
+number_of_refusal Misfit = MISFIT
+number_of_refusal Full = FULL
+number_of_refusal InUse = IN-USE
+number_of_refusal Short = SHORT
+number_of_refusal Long = LONG
+number_of_refusal NoPrice = NO-PRICE
+number_of_refusal LedgerFull = LEDGER-FULL
 
 -- 0 for an accepted call
-abbrev pub numberOfProvisioned : Provisioned → ℕ
-numberOfProvisioned Accepted = ACCEPTED
-numberOfProvisioned (NotProvisioned r) = numberOfRefusal r
+abbrev pub number_of_provisioned : Provisioned → ℕ
+number_of_provisioned Accepted = ACCEPTED
+number_of_provisioned (NotProvisioned r) = number_of_refusal r
 
 -- READS
 
 -- the refusal number or 0, and how many bytes were written
 abbrev pub refusal_of_written : Written → ℕ
 refusal_of_written (Bytes n) = 0
-refusal_of_written (NotWritten r) = numberOfRefusal r
+refusal_of_written (NotWritten r) = number_of_refusal r
 
 abbrev pub bytes_written : Written → ℕ
 bytes_written (Bytes n) = n
@@ -101,12 +101,12 @@ pub record AnswersRead (w : Written) (r : Read) : Type 0 where
 
 abbrev pub count_of : Counted → Count
 count_of (Rules n) = record { refusal = 0; number = n }
-count_of (NotCounted r) = record { refusal = numberOfRefusal r; number = 0 }
+count_of (NotCounted r) = record { refusal = number_of_refusal r; number = 0 }
 
 -- how many differences there are between two plans (C-20)
 abbrev pub compared_of : Compared → Count
 compared_of (Differences n) = record { refusal = 0; number = n }
-compared_of (NotCompared r) = record { refusal = numberOfRefusal r; number = 0 }
+compared_of (NotCompared r) = record { refusal = number_of_refusal r; number = 0 }
 
 -- THE CHOICE AND THE LISTING
 
@@ -114,14 +114,14 @@ abbrev pub place_chosen : Chosen → Option ℕ
 place_chosen (At k) = some k.0
 place_chosen NoRule = none
 
-abbrev pub orderingOf : Order → Ordering
-orderingOf Before = Ordering.lt
-orderingOf Same = Ordering.eq
-orderingOf After = Ordering.gt
+abbrev pub ordering_of : Order → Ordering
+ordering_of Before = Ordering.lt
+ordering_of Same = Ordering.eq
+ordering_of After = Ordering.gt
 
 -- a rule of the listing, or the number of a refusal: "every other field 0"
 abbrev pub rule_listed : ℕ × Option Listed → ListedRule
-rule_listed (r, none) = record { refusal = r; class = 0; digits = 0; prefix = replicate 16 0; length = 0; set = setOf 0 }
+rule_listed (r, none) = record { refusal = r; class = 0; digits = 0; prefix = replicate 16 0; length = 0; set = set_of 0 }
 rule_listed (r, some l) =
     record {
       refusal = r;
@@ -129,7 +129,7 @@ rule_listed (r, some l) =
       digits = length l.filter.prefix;
       prefix = padded 16 l.filter.prefix;
       length = l.filter.len;
-      set = setOf l.set;
+      set = set_of l.set;
     }
 
 -- THE ANSWER TO A NUMBER: the digits are counted here, and stand in the lent buffer
@@ -154,4 +154,4 @@ span_of s = record { start = s.start; count = s.count }
 abbrev pub loss_given : LossAnswer → ℕ × Option (ℤ × ℤ)
 loss_given (LossOf l) = (0, some (l.units, l.cents))
 loss_given NoRecords = (0, none)
-loss_given (NotRead r) = (numberOfRefusal r, none)
+loss_given (NotRead r) = (number_of_refusal r, none)

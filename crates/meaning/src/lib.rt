@@ -1,6 +1,6 @@
 // The types that promises name. What each means is defined in specs/: document 01's numbers and values for every case.
 ghost use Rattle.std.specs.Prelude.{◌≡◌};
-ghost use Rattle.meaning.specs.Answers.{class_of, outgoingOf, code_of, numberOfRefusal, numberOfProvisioned};
+ghost use Rattle.meaning.specs.Answers.{class_of, outgoing_of, code_of, number_of_refusal, number_of_provisioned};
 
 pub mod ca;
 pub mod fa;
@@ -58,7 +58,7 @@ impl Class {
 
     // The outgoing class of a byte: a class, or 255 for "as incoming".
     pub fn outgoing(b: u8) -> OutgoingOf
-        ensures { result ≡ outgoingOf b }
+        ensures { result ≡ outgoing_of b }
     {
         match b {
             0 => OutgoingOf::Given(Class::INTL),
@@ -110,7 +110,7 @@ pub enum Refusal {
 impl Refusal {
     // Document 01's number.
     pub fn number(self) -> u8
-        ensures { result ≡ numberOfRefusal self }
+        ensures { result ≡ number_of_refusal self }
     {
         match self {
             Refusal::Cut => refusals::CUT,
@@ -142,7 +142,7 @@ pub enum Provisioned {
 impl Provisioned {
     // 0 for an accepted call, else the number of its refusal.
     pub fn number(self) -> u8
-        ensures { result ≡ numberOfProvisioned self }
+        ensures { result ≡ number_of_provisioned self }
     {
         match self {
             Provisioned::Accepted => refusals::ACCEPTED,

@@ -8,7 +8,7 @@ ghost use Rattle.meaning.specs.Rules.{names};
 ghost use Rattle.meaning.specs.Plan.{held, referrers, fresh, with_slot, with_rules};
 ghost use Rattle.meaning.specs.Reads.{over_room};
 ghost use Rattle.meaning.specs.History.{no_rule};
-ghost use Rattle.meaning.specs.Answers.{setOf};
+ghost use Rattle.meaning.specs.Answers.{set_of};
 ghost use Rattle.buffer.specs.Slots.{insert_at, remove_at};
 ghost use Rattle.filter.specs.Slots.{rules_of, RuleArea};
 ghost use Rattle.plan.specs.Layout.{header_image, slot_image, rule_image, image, set_room, rule_room, rule_count, plan_of};
@@ -83,7 +83,7 @@ pub fn rules<'a>(memory: &'a [u8]) -> &'a [u8]
 // The set number at a place of some bytes.
 pub fn set_number(bytes: &[u8], at: usize) -> SetNumber
     requires { at + 1 < length bytes.now }
-    ensures { result ≡ setOf (word bytes.now at) }
+    ensures { result ≡ set_of (word bytes.now at) }
 {
     SetNumber(buffer::word(bytes, at) as u16)
 }
@@ -129,7 +129,7 @@ pub fn content<'a>(memory: &'a [u8], set: SetNumber) -> &'a [u8]
 // The set that the rule at a place names.
 pub fn set_named(memory: &[u8], place: RulePlace) -> SetNumber
     requires { (sound_of memory.now ≡ true) × (place.0 < rule_count memory.now) }
-    ensures { result ≡ setOf (get_or (plan_of memory.now).rules place.0 no_rule).set }
+    ensures { result ≡ set_of (get_or (plan_of memory.now).rules place.0 no_rule).set }
 {
     filter::set_at(rules(memory), place)
 }

@@ -2,7 +2,7 @@
 ghost use Rattle.std.specs.Prelude.{◌≡◌, true, ◌*◌, ◌≤◌, ◌<◌, length};
 ghost use Rattle.meaning.specs.Sizes.{RULE-WIDTH, PRICE-BODY, PRICE-ROOM};
 ghost use Rattle.meaning.specs.Prices.{row_given, row_in_range};
-ghost use Rattle.meaning.specs.Answers.{numberOfProvisioned};
+ghost use Rattle.meaning.specs.Answers.{number_of_provisioned};
 ghost use Rattle.blocks.specs.Places.{mask_table};
 ghost use Rattle.buffer.specs.Slots.{slots, insert_at};
 ghost use Rattle.filter.specs.Slots.{FilterBytes};
@@ -182,7 +182,7 @@ fn insert_row(prices: &mut [u8], place: RulePlace, slot: &[u8])
 fn place_row(prices: &mut [u8], slot: &[u8]) -> Provisioned
     requires prices_value { prices_in_range prices.old ≡ true }
     requires row_slot { RowSlot slot.now }
-    ensures { PlacesRow prices.old (row_of slot.now) prices.new (numberOfProvisioned result) }
+    ensures { PlacesRow prices.old (row_of slot.now) prices.new (number_of_provisioned result) }
 {
     let count = buffer::word(prices, 0);
     match filter::find(&prices[ROWS_AT..], count, slot) {
@@ -200,7 +200,7 @@ fn place_row(prices: &mut [u8], slot: &[u8]) -> Provisioned
 // Adds the row that a body of just its length gives to a list that is known to be in range.
 pub fn add_known(prices: &mut [u8], body: &[u8]) -> Provisioned
     requires { (prices_in_range prices.old ≡ true) × (length body.now ≡ PRICE-BODY) }
-    ensures { AddsPrice prices.old body.now prices.new (numberOfProvisioned result) }
+    ensures { AddsPrice prices.old body.now prices.new (number_of_provisioned result) }
 {
     if !row_in_range(body) {
         return Provisioned::Refused(Refusal::Range);
@@ -212,7 +212,7 @@ pub fn add_known(prices: &mut [u8], body: &[u8]) -> Provisioned
 
 // Adds a row to a lent list: CUT, RANGE, TAKEN, FULL.
 pub fn add_price(prices: &mut [u8; PRICES_BYTES], body: &[u8]) -> Provisioned
-    ensures { AddsPrice prices.old body.now prices.new (numberOfProvisioned result) }
+    ensures { AddsPrice prices.old body.now prices.new (number_of_provisioned result) }
 {
     if body.len() < PRICE_BODY {
         return Provisioned::Refused(Refusal::Cut);

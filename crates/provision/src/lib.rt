@@ -4,7 +4,7 @@ ghost use Rattle.std.specs.Prelude.{◌≡◌, length};
 ghost use Rattle.std.proofs.Math.Option.{some};
 ghost use Rattle.meaning.specs.Refusals.{first_of};
 ghost use Rattle.meaning.specs.Calls.{open_plan, add_set, replace_set, remove_set, add_rule, change_rule, remove_rule, operation_of, call_of, lacks_bytes, lines_of, made};
-ghost use Rattle.meaning.specs.Answers.{numberOfProvisioned};
+ghost use Rattle.meaning.specs.Answers.{number_of_provisioned};
 ghost use Rattle.plan.specs.Layout.{plan_of};
 ghost use Rattle.changes.specs.Promise.{memory_of, Provides, Carries, calls};
 ghost use Rattle.changes.specs.Given.{KnownCall};
@@ -16,7 +16,7 @@ use meaning::{Provisioned, Refusal, kinds};
 // The refusal of a call, by its own checks.
 fn refusal_known(plan: &[u8], kind: u8, body: &[u8]) -> Provisioned
     requires { KnownCall plan.now kind body.now }
-    ensures { numberOfProvisioned result ≡ first_of (lines_of (operation_of kind) (lacks_bytes (length plan.now)) (some (plan_of plan.now)) body.now) }
+    ensures { number_of_provisioned result ≡ first_of (lines_of (operation_of kind) (lacks_bytes (length plan.now)) (some (plan_of plan.now)) body.now) }
 {
     match kind {
         kinds::ADD_SET => set_changes::add_set_refusal(plan, body),
@@ -46,7 +46,7 @@ fn make(plan: &mut [u8], kind: u8, body: &[u8])
 // A call: refused, or made.
 pub fn change_known(plan: &mut [u8], kind: u8, body: &[u8]) -> Provisioned
     requires { KnownCall plan.old kind body.now }
-    ensures { Provides (call_of kind body.now) plan.old plan.new (numberOfProvisioned result) }
+    ensures { Provides (call_of kind body.now) plan.old plan.new (number_of_provisioned result) }
 {
     match refusal_known(plan, kind, body) {
         Provisioned::Refused(r) => Provisioned::Refused(r),
@@ -61,7 +61,7 @@ pub fn change_known(plan: &mut [u8], kind: u8, body: &[u8]) -> Provisioned
 
 // The call of a kind: KIND, CUT, PLAN, then the call over a known plan.
 pub fn carry_out(plan: &mut [u8], kind: u8, body: &[u8]) -> Provisioned
-    ensures { Carries kind body.now plan.old plan.new (numberOfProvisioned result) }
+    ensures { Carries kind body.now plan.old plan.new (number_of_provisioned result) }
 {
     if !kinds::is_call(kind) {
         return Provisioned::Refused(Refusal::Kind);
@@ -81,49 +81,49 @@ pub fn carry_out(plan: &mut [u8], kind: u8, body: &[u8]) -> Provisioned
 
 // Opens a plan over a memory, whatever it holds.
 pub fn open(plan: &mut [u8], body: &[u8]) -> Provisioned
-    ensures { Provides (calls open_plan body.now) plan.old plan.new (numberOfProvisioned result) }
+    ensures { Provides (calls open_plan body.now) plan.old plan.new (number_of_provisioned result) }
 {
     carry_out(plan, kinds::OPEN_PLAN, body)
 }
 
 // Adds a set.
 pub fn add_set(plan: &mut [u8], body: &[u8]) -> Provisioned
-    ensures { Provides (calls add_set body.now) plan.old plan.new (numberOfProvisioned result) }
+    ensures { Provides (calls add_set body.now) plan.old plan.new (number_of_provisioned result) }
 {
     carry_out(plan, kinds::ADD_SET, body)
 }
 
 // Replaces the content of a set.
 pub fn replace_set(plan: &mut [u8], body: &[u8]) -> Provisioned
-    ensures { Provides (calls replace_set body.now) plan.old plan.new (numberOfProvisioned result) }
+    ensures { Provides (calls replace_set body.now) plan.old plan.new (number_of_provisioned result) }
 {
     carry_out(plan, kinds::REPLACE_SET, body)
 }
 
 // Removes a set that no rule names.
 pub fn remove_set(plan: &mut [u8], body: &[u8]) -> Provisioned
-    ensures { Provides (calls remove_set body.now) plan.old plan.new (numberOfProvisioned result) }
+    ensures { Provides (calls remove_set body.now) plan.old plan.new (number_of_provisioned result) }
 {
     carry_out(plan, kinds::REMOVE_SET, body)
 }
 
 // Adds a rule.
 pub fn add_rule(plan: &mut [u8], body: &[u8]) -> Provisioned
-    ensures { Provides (calls add_rule body.now) plan.old plan.new (numberOfProvisioned result) }
+    ensures { Provides (calls add_rule body.now) plan.old plan.new (number_of_provisioned result) }
 {
     carry_out(plan, kinds::ADD_RULE, body)
 }
 
 // Changes the set that a rule names.
 pub fn change_rule(plan: &mut [u8], body: &[u8]) -> Provisioned
-    ensures { Provides (calls change_rule body.now) plan.old plan.new (numberOfProvisioned result) }
+    ensures { Provides (calls change_rule body.now) plan.old plan.new (number_of_provisioned result) }
 {
     carry_out(plan, kinds::CHANGE_RULE, body)
 }
 
 // Removes a rule.
 pub fn remove_rule(plan: &mut [u8], body: &[u8]) -> Provisioned
-    ensures { Provides (calls remove_rule body.now) plan.old plan.new (numberOfProvisioned result) }
+    ensures { Provides (calls remove_rule body.now) plan.old plan.new (number_of_provisioned result) }
 {
     carry_out(plan, kinds::REMOVE_RULE, body)
 }

@@ -20,7 +20,7 @@ use Rattle.meaning.specs.History.{no_rule}
 use Rattle.meaning.specs.Calls.{REMOVE-RULE, NUMBER, REFS, LIST, is_call, body_length}
 use Rattle.meaning.specs.Answer.{answer}
 use Rattle.meaning.specs.Reads.{over_room, count_after, referrer_count, Listed, listed, listing, listed_or, rule_at_place}
-use Rattle.meaning.specs.Answers.{setOf, count_of, rule_listed}
+use Rattle.meaning.specs.Answers.{set_of, count_of, rule_listed}
 use Rattle.meaning.specs.Ledger.{empty_ledger}
 use Rattle.meaning.specs.Records.{no_line, number_line, refs_line, listed_line, end_line, record_text, record_house, House, house_with}
 use Rattle.meaning.specs.declared.Counted.{Counted}
@@ -86,7 +86,7 @@ module _ (m : List ℕ) where
   unfolding refs_line
   refs_no_plan k s w = rw (state_none m s) w
 
-  pub refs_known : {out last : List ℕ} {n : ℕ} (c : Counted) (set : SetNumber) (k : ℕ) → sound_of m ≡ true → set ≡ setOf k
+  pub refs_known : {out last : List ℕ} {n : ℕ} (c : Counted) (set : SetNumber) (k : ℕ) → sound_of m ≡ true → set ≡ set_of k
       → count_of c ≡ referrer_count (some (plan_of m)) set.0 → Writes (refs_line (count_of c)) out last n
       → Writes (refs_line (referrer_count (state_of m) k)) out last n
   refs_known c set k s k-is e w =

@@ -4,7 +4,7 @@ ghost use Rattle.meaning.specs.Sizes.{SET-NUMBER-BYTES};
 ghost use Rattle.meaning.specs.Calls.{LIST, CALL, is_kind, is_call, body_length};
 ghost use Rattle.meaning.specs.Records.{refs_line};
 ghost use Rattle.meaning.specs.Ledger.{ledger_of};
-ghost use Rattle.meaning.specs.Answers.{numberOfProvisioned};
+ghost use Rattle.meaning.specs.Answers.{number_of_provisioned};
 ghost use Rattle.meaning.specs.Reads.{referrer_count};
 ghost use Rattle.meaning.specs.Basics.{word};
 ghost use Rattle.plan.specs.State.{sound_of, state_of};
@@ -144,7 +144,7 @@ fn read_record(plan: &[u8], run: Run, kind: u8, body: &[u8], output: &mut [u8]) 
 
 // Whether a plan is there after a call of a kind.
 fn opened_after(opened: bool, kind: u8, answer: Provisioned) -> bool
-    ensures { result ≡ opened_after opened kind (numberOfProvisioned answer) }
+    ensures { result ≡ opened_after opened kind (number_of_provisioned answer) }
 {
     if answer.number() != ACCEPTED {
         return opened;

@@ -11,7 +11,7 @@ use Rattle.meaning.specs.Filters.{Filter, filter_of}
 use Rattle.meaning.specs.Rules.{Rule, insert, rename, without}
 use Rattle.meaning.specs.Plan.{rooms_in, with_rules}
 use Rattle.meaning.specs.Calls.{code_given, set_given, rule_given, holds_filter}
-use Rattle.meaning.specs.Answers.{setOf}
+use Rattle.meaning.specs.Answers.{set_of}
 use Rattle.meaning.specs.declared.SetNumber.{SetNumber}
 use Rattle.meaning.specs.declared.RulePlace.{RulePlace}
 use Rattle.buffer.specs.Slots.{insert_at, remove_at}
@@ -58,7 +58,7 @@ module _ (m b : List ℕ) (g : GivesFilter m b) (k : RulePlace) (k-is : k.0 ≡ 
         → after ≡ image (with_rules (without f (plan_of m).rules) (plan_of m)) ++ rest_of m
     removed e = e ∙ other_rules m (sym held_here.removed)
 
-    pub renamed : {n : SetNumber} {after : List ℕ} → n ≡ setOf (set_given b) → after ≡ image (with_rules (renamed_at k.0 n.0 (plan_of m).rules) (plan_of m)) ++ rest_of m
+    pub renamed : {n : SetNumber} {after : List ℕ} → n ≡ set_of (set_given b) → after ≡ image (with_rules (renamed_at k.0 n.0 (plan_of m).rules) (plan_of m)) ++ rest_of m
         → after ≡ image (with_rules (rename f (set_given b) (plan_of m).rules) (plan_of m)) ++ rest_of m
     renamed n-is e = e ∙ other_rules m (ap (λ (x : SetNumber). renamed_at k.0 x.0 (plan_of m).rules) n-is ∙ sym (held_here.renamed (set_given b)))
 
@@ -70,7 +70,7 @@ module _ (m b : List ℕ) (g : GivesFilter m b) (k : RulePlace) (k-is : k.0 ≡ 
     pub absent_within : k.0 ≤ rule_count m
     absent_within = rw (rule_count_is m) absent_here.within
 
-    pub inserted : {n : SetNumber} {code after : List ℕ} → n ≡ setOf (set_given b) → code ≡ code_given b
+    pub inserted : {n : SetNumber} {code after : List ℕ} → n ≡ set_of (set_given b) → code ≡ code_given b
         → after ≡ image (with_rules (insert_at k.0 (rule_with code n.0) (plan_of m).rules) (plan_of m)) ++ rest_of m
         → after ≡ image (with_rules (insert (rule_given b) (plan_of m).rules) (plan_of m)) ++ rest_of m
     inserted n-is code_is e =

@@ -9,7 +9,7 @@ ghost use Rattle.meaning.specs.Rules.{insert, rename, without};
 ghost use Rattle.meaning.specs.Plan.{rooms_in, held, with_rules, fits_held};
 ghost use Rattle.meaning.specs.Reads.{over_room};
 ghost use Rattle.meaning.specs.Calls.{code_given, set_given, rule_given, holds_filter, add_rule_lines, change_rule_lines, remove_rule_lines};
-ghost use Rattle.meaning.specs.Answers.{numberOfProvisioned};
+ghost use Rattle.meaning.specs.Answers.{number_of_provisioned};
 ghost use Rattle.filter.specs.Place.{filter_place, place_given};
 ghost use Rattle.plan.specs.Layout.{image, plan_of};
 ghost use Rattle.plan.specs.State.{sound_of, rest_of};
@@ -74,7 +74,7 @@ fn is_full(plan: &[u8]) -> bool
 // The refusal of a rule that is added.
 pub fn add_rule_refusal(plan: &[u8], body: &[u8]) -> Provisioned
     requires { (sound_of plan.now ≡ true) × (length body.now ≡ RULE-BODY) }
-    ensures { numberOfProvisioned result ≡ first_of (add_rule_lines (plan_of plan.now) body.now) }
+    ensures { number_of_provisioned result ≡ first_of (add_rule_lines (plan_of plan.now) body.now) }
 {
     if out_of_range(plan, body) {
         return Provisioned::Refused(Refusal::Range);
@@ -108,7 +108,7 @@ fn both_there(plan: &[u8], body: &[u8]) -> bool
 // The refusal of a rule whose set is changed.
 pub fn change_rule_refusal(plan: &[u8], body: &[u8]) -> Provisioned
     requires { (sound_of plan.now ≡ true) × (length body.now ≡ RULE-BODY) }
-    ensures { numberOfProvisioned result ≡ first_of (change_rule_lines (plan_of plan.now) body.now) }
+    ensures { number_of_provisioned result ≡ first_of (change_rule_lines (plan_of plan.now) body.now) }
 {
     if out_of_range(plan, body) {
         return Provisioned::Refused(Refusal::Range);
@@ -125,7 +125,7 @@ pub fn change_rule_refusal(plan: &[u8], body: &[u8]) -> Provisioned
 // The refusal of a rule that is removed.
 pub fn remove_rule_refusal(plan: &[u8], body: &[u8]) -> Provisioned
     requires { (sound_of plan.now ≡ true) × (length body.now ≡ FILTER-BYTES) }
-    ensures { numberOfProvisioned result ≡ first_of (remove_rule_lines (plan_of plan.now) body.now) }
+    ensures { number_of_provisioned result ≡ first_of (remove_rule_lines (plan_of plan.now) body.now) }
 {
     if !filter::filter_in_range(body) {
         return Provisioned::Refused(Refusal::Range);

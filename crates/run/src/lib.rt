@@ -2,7 +2,7 @@
 ghost use Rattle.std.specs.Prelude.{◌≡◌, true, ◌≤◌, length};
 ghost use Rattle.meaning.specs.Sizes.{OPENING-BYTES, RUN-BYTES};
 ghost use Rattle.meaning.specs.Calls.{OPEN-PLAN, is_call, body_length, call_of};
-ghost use Rattle.meaning.specs.Answers.{numberOfProvisioned};
+ghost use Rattle.meaning.specs.Answers.{number_of_provisioned};
 ghost use Rattle.run.specs.Runs.{InRun, RunProvides};
 
 use meaning::sizes::{RUN_RULES, RUN_SETS};
@@ -11,7 +11,7 @@ use meaning::{Provisioned, Refusal, kinds};
 // Opens a plan: RANGE, then ROOM by each room.
 fn open(plan: &mut [u8], body: &[u8]) -> Provisioned
     requires { (length body.now ≡ OPENING-BYTES) × (RUN-BYTES ≤ length plan.old) }
-    ensures { RunProvides (call_of OPEN-PLAN body.now) plan.old plan.new (numberOfProvisioned result) }
+    ensures { RunProvides (call_of OPEN-PLAN body.now) plan.old plan.new (number_of_provisioned result) }
 {
     if RUN_SETS < buffer::word(body, 0) || RUN_RULES < buffer::word(body, 2) {
         // no memory of 0 bytes has room
@@ -23,7 +23,7 @@ fn open(plan: &mut [u8], body: &[u8]) -> Provisioned
 // The call of a kind.
 pub fn carry_out(plan: &mut [u8], opened: bool, kind: u8, body: &[u8]) -> Provisioned
     requires { InRun plan.old opened × (is_call kind ≡ true) × (length body.now ≡ body_length kind) }
-    ensures { RunProvides (call_of kind body.now) plan.old plan.new (numberOfProvisioned result) }
+    ensures { RunProvides (call_of kind body.now) plan.old plan.new (number_of_provisioned result) }
 {
     if kind == kinds::OPEN_PLAN {
         return open(plan, body);

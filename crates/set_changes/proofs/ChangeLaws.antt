@@ -11,7 +11,7 @@ use Rattle.meaning.specs.Refusals.{first_of}
 use Rattle.meaning.specs.Settings.{rooms_of, bytes_needed}
 use Rattle.meaning.specs.Plan.{fresh, with_slot}
 use Rattle.meaning.specs.Calls.{open_plan, body_length, opened_rooms, opened_settings, set_number, content_given, lacks_bytes, opening_lines}
-use Rattle.meaning.specs.Answers.{setOf}
+use Rattle.meaning.specs.Answers.{set_of}
 use Rattle.meaning.specs.declared.SetNumber.{SetNumber}
 use Rattle.plan.specs.Layout.{image, plan_of}
 use Rattle.plan.specs.State.{rest_of}
@@ -35,7 +35,7 @@ module _ (m b : List ℕ) (size : length b ≡ OPENING-BYTES) where
 
 -- THE CALLS ABOUT SETS: the set and the content are those that the body gives
 
-module _ (m b : List ℕ) {set : SetNumber} {after : List ℕ} (set_is : set ≡ setOf (set_number b)) where
+module _ (m b : List ℕ) {set : SetNumber} {after : List ℕ} (set_is : set ≡ set_of (set_number b)) where
   pub stored : {content : List ℕ} → content ≡ content_given b → after ≡ image (with_slot set.0 (some content) (plan_of m)) ++ rest_of m
       → after ≡ image (with_slot (set_number b) (some (content_given b)) (plan_of m)) ++ rest_of m
   stored e f = f ∙ rw (set_is, e)

@@ -14,7 +14,7 @@ use Rattle.meaning.specs.Rules.{Rule, filter_in, names}
 use Rattle.meaning.specs.Actions.{actions_of}
 use Rattle.meaning.specs.Groups.{fit}
 use Rattle.meaning.specs.Calls.{set_number, content_given}
-use Rattle.meaning.specs.Answers.{setOf}
+use Rattle.meaning.specs.Answers.{set_of}
 use Rattle.meaning.specs.declared.SetNumber.{SetNumber}
 use Rattle.filter.specs.Slots.{rule_of, rules_of}
 use Rattle.filter.proofs.RuleLaws.{filter_in_lem, rules_from, rules_full, rules_end, rules_more}
@@ -57,6 +57,6 @@ module _ (set : ℕ) (content area : List ℕ) (n i : ℕ) (h : Fitting set cont
   fitting_all l = h ∙ rw (rules_end n i area l)
 
 -- by the set and the content that a body gives, over the rules of a plan
-pub fitting_plan : {set : SetNumber} {content : List ℕ} {rules : List Rule} {r : Bool} (n : ℕ) (area b : List ℕ) → set ≡ setOf (set_number b) → content ≡ content_given b
+pub fitting_plan : {set : SetNumber} {content : List ℕ} {rules : List Rule} {r : Bool} (n : ℕ) (area b : List ℕ) → set ≡ set_of (set_number b) → content ≡ content_given b
     → rules_of n area ≡ rules → r ≡ all (fitting set.0 content) (rules_of n area) → r ≡ all (fitting (set_number b) (content_given b)) rules
 fitting_plan n area b set_is content_is rules_are e = e ∙ rw (set_is, content_is, rules_are)

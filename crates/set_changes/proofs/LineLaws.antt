@@ -16,7 +16,7 @@ use Rattle.meaning.specs.Rules.{names}
 use Rattle.meaning.specs.Plan.{Plan, referrers}
 use Rattle.meaning.specs.Reads.{over_room}
 use Rattle.meaning.specs.Calls.{opened_rooms, set_number, lacks_bytes, opening_lines}
-use Rattle.meaning.specs.Answers.{setOf}
+use Rattle.meaning.specs.Answers.{set_of}
 use Rattle.meaning.specs.declared.SetNumber.{SetNumber}
 use Rattle.meaning.proofs.Tests.{is_false, none_counted, passed_at}
 use Rattle.plan.specs.Layout.{set_room, plan_of}
@@ -48,6 +48,6 @@ in_use p n k e = go (any (names n) p.rules) refl
     go false q = le-ltb 0 k (omega (arith, e, (none_counted (names n) p.rules).0 q))
 
 -- a set's number that is not over the room is below it; `set` is the number that the body gives
-pub below_room : (m b : List ℕ) (set : SetNumber) → set ≡ setOf (set_number b) → over_room (plan_of m) (set_number b) ≡ false → set.0 < set_room m
+pub below_room : (m b : List ℕ) (set : SetNumber) → set ≡ set_of (set_number b) → over_room (plan_of m) (set_number b) ≡ false → set.0 < set_room m
 unfolding plan_of
 below_room m b set set_is e = rw set_is (leb-false (set_room m) (set_number b) e)

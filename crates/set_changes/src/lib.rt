@@ -12,7 +12,7 @@ ghost use Rattle.meaning.specs.Groups.{groups_hold, fit};
 ghost use Rattle.meaning.specs.Plan.{with_slot};
 ghost use Rattle.meaning.specs.Reads.{over_room};
 ghost use Rattle.meaning.specs.Calls.{open_plan, opened_rooms, opened_settings, set_number, content_given, lacks_bytes, opening_lines, add_set_lines, replace_set_lines, remove_set_lines};
-ghost use Rattle.meaning.specs.Answers.{numberOfProvisioned};
+ghost use Rattle.meaning.specs.Answers.{number_of_provisioned};
 ghost use Rattle.filter.specs.Slots.{rules_of, RuleArea};
 ghost use Rattle.plan.specs.Layout.{image, plan_of};
 ghost use Rattle.plan.specs.State.{sound_of, rest_of};
@@ -46,7 +46,7 @@ fn lacks_room(size: usize, body: &[u8]) -> bool
 // The refusal of an opening over a memory of `size` bytes.
 pub fn opening_refusal(size: usize, body: &[u8]) -> Provisioned
     requires { length body.now ≡ OPENING-BYTES }
-    ensures { numberOfProvisioned result ≡ first_of (opening_lines (lacks_bytes size) body.now) }
+    ensures { number_of_provisioned result ≡ first_of (opening_lines (lacks_bytes size) body.now) }
 {
     if !opening_in_range(body) {
         return Provisioned::Refused(Refusal::Range);
@@ -60,7 +60,7 @@ pub fn opening_refusal(size: usize, body: &[u8]) -> Provisioned
 // An opening over any memory.
 pub fn open_known(plan: &mut [u8], body: &[u8]) -> Provisioned
     requires { length body.now ≡ OPENING-BYTES }
-    ensures { Provides (calls open_plan body.now) plan.old plan.new (numberOfProvisioned result) }
+    ensures { Provides (calls open_plan body.now) plan.old plan.new (number_of_provisioned result) }
 {
     match opening_refusal(plan.len(), body) {
         Provisioned::Refused(r) => Provisioned::Refused(r),
@@ -99,7 +99,7 @@ fn keeps_groups(body: &[u8]) -> bool
 // The refusal of a set that is added.
 pub fn add_set_refusal(plan: &[u8], body: &[u8]) -> Provisioned
     requires { (sound_of plan.now ≡ true) × (length body.now ≡ SET-BODY) }
-    ensures { numberOfProvisioned result ≡ first_of (add_set_lines (plan_of plan.now) body.now) }
+    ensures { number_of_provisioned result ≡ first_of (add_set_lines (plan_of plan.now) body.now) }
 {
     if out_of_range(plan, body) {
         return Provisioned::Refused(Refusal::Range);
@@ -151,7 +151,7 @@ fn fits_rules(plan: &[u8], body: &[u8]) -> bool
 // The refusal of a set that is replaced.
 pub fn replace_set_refusal(plan: &[u8], body: &[u8]) -> Provisioned
     requires { (sound_of plan.now ≡ true) × (length body.now ≡ SET-BODY) }
-    ensures { numberOfProvisioned result ≡ first_of (replace_set_lines (plan_of plan.now) body.now) }
+    ensures { number_of_provisioned result ≡ first_of (replace_set_lines (plan_of plan.now) body.now) }
 {
     if out_of_range(plan, body) {
         return Provisioned::Refused(Refusal::Range);
@@ -179,7 +179,7 @@ fn is_named(plan: &[u8], body: &[u8]) -> bool
 // The refusal of a set that is removed.
 pub fn remove_set_refusal(plan: &[u8], body: &[u8]) -> Provisioned
     requires { (sound_of plan.now ≡ true) × (length body.now ≡ SET-NUMBER-BYTES) }
-    ensures { numberOfProvisioned result ≡ first_of (remove_set_lines (plan_of plan.now) body.now) }
+    ensures { number_of_provisioned result ≡ first_of (remove_set_lines (plan_of plan.now) body.now) }
 {
     if changes::is_over_room(plan, body, 0) {
         return Provisioned::Refused(Refusal::Range);

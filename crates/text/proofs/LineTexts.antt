@@ -10,7 +10,7 @@ use lib.ListN.{length, take, set, length-append, length-take}
 use borrow.Author.Tests.{eq-eqb, ne_eqb}
 use Rattle.meaning.specs.Basics.{if◌then◌else◌, all, is_digit}
 use Rattle.meaning.specs.Answer.{Answer}
-use Rattle.meaning.specs.Answers.{numberOfRefusal, numberOfProvisioned, count_of}
+use Rattle.meaning.specs.Answers.{number_of_refusal, number_of_provisioned, count_of}
 use Rattle.meaning.specs.Records.{decimal, prefix_text, length_text, ok_line, no_line, accepted_line, number_line, refs_line, listed_line, end_line}
 use Rattle.meaning.specs.declared.Answered.{Answered}
 use Rattle.meaning.specs.declared.ListedRule.{ListedRule}
@@ -34,12 +34,12 @@ pub end_is : (n : ℕ) → (101 ∷ 110 ∷ 100 ∷ 32 ∷ []) ++ (decimal n ++ 
 unfolding end_line
 end_is n = refl
 
-pub accepted_is : {p : Provisioned} → p ≡ Accepted → 111 ∷ 107 ∷ 10 ∷ [] ≡ accepted_line (numberOfProvisioned p)
+pub accepted_is : {p : Provisioned} → p ≡ Accepted → 111 ∷ 107 ∷ 10 ∷ [] ≡ accepted_line (number_of_provisioned p)
 unfolding ok_line
 accepted_is e = rw e
 
-pub not_accepted_is : {p : Provisioned} {r : Refusal} {n : ℕ} → p ≡ NotProvisioned r → n ≡ numberOfRefusal r → no_line n ≡ accepted_line (numberOfProvisioned p)
-not_accepted_is {p} {r} {n} e k = rw (e, k) (go (numberOfRefusal r) (refusal_number r))
+pub not_accepted_is : {p : Provisioned} {r : Refusal} {n : ℕ} → p ≡ NotProvisioned r → n ≡ number_of_refusal r → no_line n ≡ accepted_line (number_of_provisioned p)
+not_accepted_is {p} {r} {n} e k = rw (e, k) (go (number_of_refusal r) (refusal_number r))
   where
     go : (n : ℕ) → n ≢ 0 → no_line n ≡ accepted_line n
     go zero z = absurd (z refl)
@@ -52,9 +52,9 @@ counted_is e = rw e
 pub counted_few : {a : Counted} {n : ℕ} → a ≡ Rules n → (count_of a).number < 65536 → n < 65536
 counted_few e h = rw e at h
 
-pub not_counted_is : {a : Counted} {r : Refusal} {n : ℕ} → a ≡ NotCounted r → n ≡ numberOfRefusal r → no_line n ≡ refs_line (count_of a)
+pub not_counted_is : {a : Counted} {r : Refusal} {n : ℕ} → a ≡ NotCounted r → n ≡ number_of_refusal r → no_line n ≡ refs_line (count_of a)
 unfolding refs_line
-not_counted_is {a} {r} {n} e k = rw (e, k, ne_eqb (numberOfRefusal r) 0 (refusal_number r))
+not_counted_is {a} {r} {n} e k = rw (e, k, ne_eqb (number_of_refusal r) 0 (refusal_number r))
 
 -- LISTED RULES
 

@@ -1,7 +1,7 @@
 // The text of each line that a record writes, at the front of a lent buffer; the bytes behind it stay.
 ghost use Rattle.std.specs.Prelude.{◌≡◌, ◌++◌, [], ◌∷◌, map, ◌+◌, ◌≤◌, ◌<◌, length, take, T, nat_abs};
 ghost use Rattle.meaning.specs.Basics.{all, is_digit, written_over};
-ghost use Rattle.meaning.specs.Answers.{numberOfProvisioned, count_of};
+ghost use Rattle.meaning.specs.Answers.{number_of_provisioned, count_of};
 ghost use Rattle.meaning.specs.Records.{decimal, digit_text, prefix_text, length_text, no_line, accepted_line, number_line, refs_line, listed_line, end_line, line, signed_decimal};
 ghost use Rattle.blocks.specs.Endian.{bytes_of};
 ghost use Rattle.text.specs.Writes.{Writes, LONGEST, digits_or, listed_of, ListedIn, answer_in, NumberIn, head_text, Printable};
@@ -149,7 +149,7 @@ pub fn no_line(refusal: u8, out: &mut [u8]) -> usize
 // What opening and provisioning answer.
 pub fn accepted_line(answer: Provisioned, out: &mut [u8]) -> usize
     requires { LONGEST ≤ length out.old }
-    ensures { Writes (accepted_line (numberOfProvisioned answer)) out.old out.new result }
+    ensures { Writes (accepted_line (number_of_provisioned answer)) out.old out.new result }
 {
     match answer {
         Provisioned::Accepted => {

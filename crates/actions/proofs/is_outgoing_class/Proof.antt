@@ -6,7 +6,7 @@ use lib.Dec.{eqb}
 use borrow.Author.Rules.{rules}
 use Rattle.meaning.specs.Basics.{if◌then◌else◌}
 use Rattle.meaning.specs.Settings.{is_class, AS-INCOMING, is_outgoing_class}
-use Rattle.meaning.specs.Answers.{outgoingOf, classNumbered}
+use Rattle.meaning.specs.Answers.{outgoing_of, class_numbered}
 use Rattle.meaning.specs.declared.OutgoingOf.{OutgoingOf}
 use Rattle.meaning.specs.declared.OutgoingOf.TheVariants.{Given, AsIncoming, Unknown}
 use Rattle.actions.proofs.is_outgoing_class.Statement.{statement}
@@ -17,10 +17,10 @@ isKnown (Given c) = true
 isKnown AsIncoming = true
 isKnown Unknown = false
 
-known_is : (c : ℕ) → isKnown (outgoingOf c) ≡ is_outgoing_class c
+known_is : (c : ℕ) → isKnown (outgoing_of c) ≡ is_outgoing_class c
 known_is c = go (eqb c AS-INCOMING) (is_class c)
   where
-    go : (e l : Bool) → isKnown (if e then AsIncoming else if l then Given (classNumbered c) else Unknown) ≡ (l || e)
+    go : (e l : Bool) → isKnown (if e then AsIncoming else if l then Given (class_numbered c) else Unknown) ≡ (l || e)
     go true true = refl
     go true false = refl
     go false true = refl

@@ -3,7 +3,7 @@ use Prim.Native.Nat.{◌≤◌, ◌-◌, zero-le}
 use mathlib.Core.Path.{sym, ap}
 use native.Mathlib.Omega.{arith}
 use Rattle.meaning.specs.Filters.{is_lt}
-use Rattle.meaning.specs.Answers.{orderingOf}
+use Rattle.meaning.specs.Answers.{ordering_of}
 use Rattle.meaning.specs.declared.Order.{Order}
 use Rattle.filter.proofs.RuleLaws.{slot_bytes}
 use Rattle.examiner.proofs.Rises.{Risen, risen_none, risen_all, risen_more, risen_not, next_bytes}
@@ -32,7 +32,7 @@ returns c =
     let a = t.before.before.before.args in
     let l = t.before.loop in
     sym (risen_not a.count l.i a.rules.now l.invariant.1 _ (omega arith) c.before.before.order-filters.ensures
-    (ap (λ (o : Order). is_lt (orderingOf o)) c.enum-told2.given.1))
+    (ap (λ (o : Order). is_lt (ordering_of o)) c.enum-told2.given.1))
 
 returns-2 : tie.Need-returns-2 invariant-loop decreases-loop
 returns-2 c =
@@ -40,7 +40,7 @@ returns-2 c =
     let a = t.before.before.before.args in
     let l = t.before.loop in
     sym (risen_not a.count l.i a.rules.now l.invariant.1 _ (omega arith) c.before.before.order-filters.ensures
-    (ap (λ (o : Order). is_lt (orderingOf o)) c.enum-told3.given.1))
+    (ap (λ (o : Order). is_lt (ordering_of o)) c.enum-told3.given.1))
 
 loop-again : tie.Need-loop-preserved invariant-loop decreases-loop
 loop-again c =
@@ -49,7 +49,7 @@ loop-again c =
     let l = t.before.loop in (
       omega arith,
       risen_more a.count l.i a.rules.now l.invariant.1 _ (omega arith) c.before.before.order-filters.ensures
-          (ap orderingOf c.enum_told.given.1),
+          (ap ordering_of c.enum_told.given.1),
     )
 
 returns-3 : tie.Need-returns-3 invariant-loop decreases-loop

@@ -3,7 +3,7 @@ use Prim.Native.Nat.{◌≤◌, ◌-◌, zero-le}
 use mathlib.Core.Path.{sym, ap}
 use native.Mathlib.Omega.{arith}
 use Rattle.meaning.specs.Filters.{filter_of}
-use Rattle.meaning.specs.Answers.{orderingOf}
+use Rattle.meaning.specs.Answers.{ordering_of}
 use Rattle.filter.proofs.RuleLaws.{slot_bytes}
 use Rattle.filter.proofs.PlaceLaws.{Walked, walked_none, walked_absent, walked_held, walked_more, walked_end}
 use borrow.Author.Rules.{rules}
@@ -31,14 +31,14 @@ returns c =
     let l = c.before.before.before.before.before.loop in
     let a = c.before.before.before.before.before.before.before.before.args in
     sym (walked_absent (filter_of a.code.now) a.rules.now a.count l.i l.invariant.2 _
-    c.before.before.before.before.loop-test.true c.before.before.order-filters.ensures (ap orderingOf c.enum_told.given.1))
+    c.before.before.before.before.loop-test.true c.before.before.order-filters.ensures (ap ordering_of c.enum_told.given.1))
 
 returns-2 : tie.Need-returns-2 invariant-loop decreases-loop
 returns-2 c =
     let l = c.before.before.before.before.before.loop in
     let a = c.before.before.before.before.before.before.before.before.args in
     sym (walked_held (filter_of a.code.now) a.rules.now a.count l.i l.invariant.2 _ c.before.before.before.before.loop-test.true
-    c.before.before.order-filters.ensures (ap orderingOf c.enum-told2.given.1))
+    c.before.before.order-filters.ensures (ap ordering_of c.enum-told2.given.1))
 
 loop-again : tie.Need-loop-preserved invariant-loop decreases-loop
 loop-again c =
@@ -47,7 +47,7 @@ loop-again c =
       omega arith,
       l.invariant.1,
       (walked_more (filter_of a.code.now) a.rules.now a.count l.i l.invariant.2 _ c.before.before.before.before.loop-test.true
-          c.before.before.order-filters.ensures (ap orderingOf c.enum-told3.given.1)),
+          c.before.before.order-filters.ensures (ap ordering_of c.enum-told3.given.1)),
     )
 
 returns-3 : tie.Need-returns-3 invariant-loop decreases-loop

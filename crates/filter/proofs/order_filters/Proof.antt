@@ -1,6 +1,6 @@
 -- By class, then by the prefixes, then by the lengths.
 use mathlib.Core.Path.{sym, ap, ◌∙◌}
-use Rattle.meaning.specs.Answers.{orderingOf}
+use Rattle.meaning.specs.Answers.{ordering_of}
 use Rattle.filter.proofs.OrderLaws.{class_less, class_more, by_prefix_less, by_prefix_more, by_length}
 use borrow.Author.Rules.{rules}
 use Rattle.filter.proofs.order_filters.Statement.{statement}
@@ -19,7 +19,7 @@ returns-3 c =
     let g = i.before.before.before.before.before.before.before.before in
     sym (by_prefix_less g.args.a.now g.args.b.now _ _ _ g.requires.0 g.requires.1 i.before.before.before.if1.false i.if2.false
     d.before.before.before.before.before.wide.ensures.is d.before.before.before.wide2.ensures.is d.order-prefixes.ensures
-    (ap orderingOf c.enum_told.given.1))
+    (ap ordering_of c.enum_told.given.1))
 
 returns-4 : tie.Need-returns-4
 returns-4 c =
@@ -28,7 +28,7 @@ returns-4 c =
     let g = i.before.before.before.before.before.before.before.before in
     sym (by_prefix_more g.args.a.now g.args.b.now _ _ _ g.requires.0 g.requires.1 i.before.before.before.if1.false i.if2.false
     d.before.before.before.before.before.wide.ensures.is d.before.before.before.wide2.ensures.is d.order-prefixes.ensures
-    (ap orderingOf c.enum-told2.given.1))
+    (ap ordering_of c.enum-told2.given.1))
 
 returns-5 : tie.Need-returns-5
 returns-5 c =
@@ -38,7 +38,7 @@ returns-5 c =
     c.order-lengths.ensures
     ∙ sym (by_length g.args.a.now g.args.b.now _ _ _ g.requires.0 g.requires.1 i.before.before.before.if1.false i.if2.false
     d.before.before.before.before.before.wide.ensures.is d.before.before.before.wide2.ensures.is d.order-prefixes.ensures
-    (ap orderingOf c.before.before.before.enum-told3.given.1))
+    (ap ordering_of c.before.before.before.enum-told3.given.1))
 
 pub order-filters-spec : {M : Type 1} → statement M
 order-filters-spec =

@@ -1,7 +1,7 @@
 -- By the slot's own test, and then by the order of the two.
 use mathlib.Core.Path.{ap}
 use Rattle.meaning.specs.Filters.{is_lt}
-use Rattle.meaning.specs.Answers.{orderingOf}
+use Rattle.meaning.specs.Answers.{ordering_of}
 use Rattle.meaning.specs.declared.Order.{Order}
 use Rattle.meaning.proofs.Tests.{true_is}
 use Rattle.meaning.proofs.Telling.{failed, passed}
@@ -26,21 +26,21 @@ returns-2 c =
     let d = c.before.before in
     let a = d.before.before.before.before.before.before.args in
     next_by a.before.now a.slot.now _ _ (passed d.before.before.row-passes.ensures d.before.if1.false) d.order-filters.ensures
-    (ap (λ (o : Order). is_lt (orderingOf o)) c.enum_told.given.1)
+    (ap (λ (o : Order). is_lt (ordering_of o)) c.enum_told.given.1)
 
 returns-3 : tie.Need-returns-3
 returns-3 c =
     let d = c.before.before in
     let a = d.before.before.before.before.before.before.args in
     next_by a.before.now a.slot.now _ _ (passed d.before.before.row-passes.ensures d.before.if1.false) d.order-filters.ensures
-    (ap (λ (o : Order). is_lt (orderingOf o)) c.enum-told2.given.1)
+    (ap (λ (o : Order). is_lt (ordering_of o)) c.enum-told2.given.1)
 
 returns-4 : tie.Need-returns-4
 returns-4 c =
     let d = c.before.before in
     let a = d.before.before.before.before.before.before.args in
     next_by a.before.now a.slot.now _ _ (passed d.before.before.row-passes.ensures d.before.if1.false) d.order-filters.ensures
-    (ap (λ (o : Order). is_lt (orderingOf o)) c.enum-told3.given.1)
+    (ap (λ (o : Order). is_lt (ordering_of o)) c.enum-told3.given.1)
 
 pub row-follows-spec : {M : Type 1} → statement M
 row-follows-spec =

@@ -5,7 +5,7 @@ use mathlib.Core.Bool.{Bool, true, false}
 use borrow.Author.Rules.{rules}
 use Rattle.meaning.specs.Basics.{if◌then◌else◌}
 use Rattle.meaning.specs.Settings.{is_class}
-use Rattle.meaning.specs.Answers.{class_of, classNumbered}
+use Rattle.meaning.specs.Answers.{class_of, class_numbered}
 use Rattle.meaning.specs.declared.ClassOf.{ClassOf}
 use Rattle.meaning.specs.declared.ClassOf.TheVariants.{Known, Unknown}
 use Rattle.ranges.proofs.is_class.Statement.{statement}
@@ -18,7 +18,7 @@ isKnown Unknown = false
 known_is : (c : ℕ) → isKnown (class_of c) ≡ is_class c
 known_is c = go (is_class c)
   where
-    go : (l : Bool) → isKnown (if l then Known (classNumbered c) else Unknown) ≡ l
+    go : (l : Bool) → isKnown (if l then Known (class_numbered c) else Unknown) ≡ l
     go true = refl
     go false = refl
 

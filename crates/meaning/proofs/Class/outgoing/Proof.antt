@@ -4,30 +4,30 @@ use mathlib.Core.Path.{◌≡◌, ap, sym}
 use mathlib.Core.Logic.{◌≢◌}
 use native.Mathlib.Omega.{arith}
 use borrow.Author.Tests.{lt-leb, ne_eqb}
-use Rattle.meaning.specs.Answers.{outgoingOf}
+use Rattle.meaning.specs.Answers.{outgoing_of}
 use Rattle.meaning.proofs.Class.outgoing.Statement.{statement}
 use Rattle.meaning.proofs.Class.outgoing.Tie as tie
 
 returns : tie.Need-returns
-returns c = sym (ap outgoingOf c.match.keys1)
+returns c = sym (ap outgoing_of c.match.keys1)
 
 returns-2 : tie.Need-returns-2
-returns-2 c = sym (ap outgoingOf c.match.keys2)
+returns-2 c = sym (ap outgoing_of c.match.keys2)
 
 returns-3 : tie.Need-returns-3
-returns-3 c = sym (ap outgoingOf c.match.keys3)
+returns-3 c = sym (ap outgoing_of c.match.keys3)
 
 returns-4 : tie.Need-returns-4
-returns-4 c = sym (ap outgoingOf c.match.keys4)
+returns-4 c = sym (ap outgoing_of c.match.keys4)
 
 returns-5 : tie.Need-returns-5
-returns-5 c = sym (ap outgoingOf c.match.keys5)
+returns-5 c = sym (ap outgoing_of c.match.keys5)
 
 returns-6 : tie.Need-returns-6
-returns-6 c = sym (ap outgoingOf c.match.keys6)
+returns-6 c = sym (ap outgoing_of c.match.keys6)
 
 returns-7 : tie.Need-returns-7
-returns-7 c = sym (ap outgoingOf c.match.keys7)
+returns-7 c = sym (ap outgoing_of c.match.keys7)
 
 above : (b : ℕ) → b ≢ 0 → b ≢ 1 → b ≢ 2 → b ≢ 3 → b ≢ 4 → b ≢ 5 → 5 < b
 above b z o t th f v = omega arith
