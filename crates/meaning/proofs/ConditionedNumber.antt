@@ -242,6 +242,9 @@ module _ (country prefix ds : List ℕ) (xs : List CA) (r : T (all ranged xs))
       → (1 ≤ length (if zn then value ZN else if dn then value CC ++ value DN else value CC ++ (value AC ++ value SN)))
       × (length (if zn then value ZN else if dn then value CC ++ value DN else value CC ++ (value AC ++ value SN)) ≤ 35)
   unfolding read
+  by_format false ac sn dn false f a b s d z = elim f [ ]
+  by_format true false sn false false f a b s d z = elim f [ ]
+  by_format true true false false false f a b s d z = elim f [ ]
   by_format cc ac sn dn true zone a b s d z =
       let v = inside_value ZN (omega arith) (omega arith) (true_is _ z) in (v.0, omega (arith, v.1))
   by_format true ac sn true false national a b s d z =

@@ -31,6 +31,7 @@ row_holds_lem r t =
     record { numbers = same_bytes_lem _ _ (and_left ns rs t); result = same_bytes_lem _ _ (and_right ns rs t) }
 
 every_row : (rs : List Row) → T (all row_holds rs) → (r : Row) → Memᴰ r rs → Holds r
+every_row mathlib.Core.List.[] t r m = elim m [ ]
 every_row (x ∷ xs) t r (Memᴰ.head e) = rw e (row_holds_lem x (and_left (row_holds x) (all row_holds xs) t))
 every_row (x ∷ xs) t r (Memᴰ.tail m) = every_row xs (and_right (row_holds x) (all row_holds xs) t) r m
 

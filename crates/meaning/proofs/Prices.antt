@@ -28,6 +28,7 @@ not_before_self r s t e = subst (λ o. T (is_lt o)) (prefixes.self r.prefix) (rw
 
 -- two rows of a list in order that share a prefix are one
 one_row : (rs : List PriceRow) → T (rows_in_order rs) → (r s : PriceRow) → Memᴰ r rs → Memᴰ s rs → r.prefix ≡ s.prefix → r ≡ s
+one_row [] t r s m _ e = elim m [ ]
 one_row (x ∷ xs) t r s (mathlib.Core.List.Memᴰ.head p) (mathlib.Core.List.Memᴰ.head q) e = p ∙ sym q
 one_row (x ∷ xs) t r s (mathlib.Core.List.Memᴰ.head p) (mathlib.Core.List.Memᴰ.tail n) e =
     absurd (not_before_self x s (all_mem (is_before_row x) xs (and_left (all (is_before_row x) xs) (rows_in_order xs) t) n) (ap (λ (y : PriceRow). y.prefix) (sym p) ∙ e))

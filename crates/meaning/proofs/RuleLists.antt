@@ -144,6 +144,7 @@ not_before_self r s t e = subst (λ o. T (is_lt o)) (filters.self (filter_in r))
 
 -- two rules of a list in order that share a filter are one
 pub one_rule : (rs : List Rule) → T (rules_in_order rs) → (r s : Rule) → Memᴰ r rs → Memᴰ s rs → filter_in r ≡ filter_in s → r ≡ s
+one_rule [] t r s m _ e = elim m [ ]
 one_rule (x ∷ xs) t r s (Memᴰ.head p) (Memᴰ.head q) e = p ∙ sym q
 one_rule (x ∷ xs) t r s (Memᴰ.head p) (Memᴰ.tail n) e =
     absurd (not_before_self x s (all_mem (before (filter_in x)) xs (and_left (all (before (filter_in x)) xs) (rules_in_order xs) t) n) (ap filter_in (sym p) ∙ e))

@@ -138,6 +138,7 @@ module _ {A : Type 0} where
       (all_both p q xs (and_right (p x) (all p xs) s) (and_right (q x) (all q xs) t))
 
   pub all_mem : (p : A → Bool) (xs : List A) → T (all p xs) → {x : A} → Memᴰ x xs → T (p x)
+  all_mem p [] t m = elim m [ ]
   all_mem p (y ∷ ys) t (Memᴰ.head e) = rw e (and_left (p y) (all p ys) t)
   all_mem p (y ∷ ys) t (Memᴰ.tail m) = all_mem p ys (and_right (p y) (all p ys) t) m
 
@@ -177,6 +178,7 @@ module _ {A : Type 0} where
       rw (is_false (p x) (and_left (not (p x)) (all (λ y. not (p y)) xs) t)) (all_none p xs (and_right (not (p x)) (all (λ y. not (p y)) xs) t))
 
   pub any_mem : (p : A → Bool) (xs : List A) {x : A} → Memᴰ x xs → T (p x) → T (any p xs)
+  any_mem p [] {x} m t = elim m [ ]
   any_mem p (y ∷ ys) {x} (Memᴰ.head e) t = let q : T (p y) = rw e at t in rw (is_true (p y) q) tt
   any_mem p (y ∷ ys) {x} (Memᴰ.tail m) t = go (p y) (any_mem p ys m t)
     where

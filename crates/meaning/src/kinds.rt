@@ -59,6 +59,7 @@ pub fn kinds() -> [u8; 13]
 }
 
 // How many bytes the body of a record has, by its kind; none for a byte that is no kind.
+#[tactic(auto, unfolding(crate::specs::Calls::body_length))]
 pub fn body_length(kind: u8) -> usize
     ensures { BodyBytes kind result }
 {
@@ -79,6 +80,7 @@ pub fn body_length(kind: u8) -> usize
 }
 
 // Whether a byte is a kind of house records.
+#[tactic(auto, unfolding(crate::specs::Calls::is_kind))]
 pub fn is_kind(kind: u8) -> bool
     ensures { result ≡ is_kind kind }
 {
@@ -92,6 +94,7 @@ pub fn is_kind(kind: u8) -> bool
 }
 
 // Whether it is the kind of a call that opens or provisions.
+#[tactic(auto, unfolding(crate::specs::Calls::is_call))]
 pub fn is_call(kind: u8) -> bool
     ensures { result ≡ is_call kind }
 {

@@ -1,4 +1,6 @@
 // The types that promises name. What each means is defined in specs/: document 01's numbers and values for every case.
+#![tactic(auto)]
+
 ghost use Rattle.std.specs.Prelude.{◌≡◌};
 ghost use Rattle.meaning.specs.Answers.{class_of, outgoing_of, code_of, number_of_refusal, number_of_provisioned};
 
