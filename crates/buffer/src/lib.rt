@@ -1,4 +1,6 @@
 // Leaves on parts of byte slices. A caller lends the part, so that no function here knows an offset.
+#![tactic(auto)]
+
 ghost use Rattle.std.specs.Prelude.{◌≡◌, ◌++◌, [], ◌∷◌, ◌+◌, ◌*◌, ◌-◌, ◌<◌, ◌≤◌, length, take, drop};
 ghost use Rattle.meaning.specs.Basics.{written_over, all, is_zero, is_digit, same_bytes};
 ghost use Rattle.buffer.specs.Bytes.{Byte, Word, Quad, at_most, with_word};
