@@ -1,4 +1,6 @@
 // A set's content: its parts, its actions as they lie in them, RANGE, and the fit of a rule and a set.
+#![tactic(auto)]
+
 ghost use Rattle.std.specs.Prelude.{◌≡◌, ◌≤◌, length};
 ghost use Rattle.meaning.specs.Sizes.{CONTENT-BYTES};
 ghost use Rattle.meaning.specs.Basics.{any, count, is_empty, contains};
@@ -42,7 +44,7 @@ pub fn fas_of(content: &[u8]) -> &[u8]
 // THE ACTIONS
 
 // A conditioning action; code 0 stands behind the last.
-#[derive(Drop)]
+#[derive(Clone, Copy)]
 pub struct ConditioningAction {
     pub code: u8,
     pub count: u8,

@@ -41,7 +41,7 @@ pub extern "C" fn npp_chosen_known(plan: &[u8], class: u8, digits: &[u8]) -> usi
 
 // The outcome of a call record, and the whole's totals behind it.
 #[repr(C)]
-#[derive(Drop)]
+#[derive(Clone, Copy)]
 pub struct Charged {
     pub outcome: u8,
     pub whole: Totals,

@@ -14,14 +14,14 @@ use meaning::refusals::ACCEPTED;
 use meaning::sizes::{DISTRICTS, LEDGER_NUMBERS};
 
 // A line of a number, alone or in a call record: how many bytes it has, and the whole's totals behind it.
-#[derive(Drop)]
+#[derive(Clone, Copy)]
 pub struct Entered {
     pub written: usize,
     pub whole: Totals,
 }
 
 // A line of the losses: how many bytes it has, whether it is the last, and else how many are counted behind it.
-#[derive(Drop)]
+#[derive(Clone, Copy)]
 pub struct Reported {
     pub written: usize,
     pub last: bool,

@@ -1,4 +1,6 @@
 // Blocks of eight bytes, each read and written as one number: when compiled, one load or one store.
+#![tactic(auto)]
+
 ghost use Rattle.std.specs.Prelude.{◌≡◌, ◌≤◌, length, take};
 ghost use Rattle.meaning.specs.Basics.{written_over, digits_in_range};
 ghost use Rattle.blocks.specs.Endian.{WideByte, little_endian, bytes_of};

@@ -22,7 +22,7 @@ use meaning::{
 
 // What a call that writes gives: the number of its refusal or 0, and how many bytes it wrote.
 #[repr(C)]
-#[derive(Drop)]
+#[derive(Clone, Copy)]
 pub struct NppWritten {
     pub refusal: u8,
     pub bytes: usize,
@@ -30,7 +30,7 @@ pub struct NppWritten {
 
 // What a call that counts gives: the number of its refusal or 0, and how many rules it counted.
 #[repr(C)]
-#[derive(Drop)]
+#[derive(Clone, Copy)]
 pub struct NppCounted {
     pub refusal: u8,
     pub rules: usize,
@@ -38,7 +38,7 @@ pub struct NppCounted {
 
 // What the listing gives of a rule: the number of its refusal or 0; class, how many digits the prefix has, length; the prefix, its unused bytes 0; the set.
 #[repr(C)]
-#[derive(Drop)]
+#[derive(Clone, Copy)]
 pub struct NppListed {
     pub refusal: u8,
     pub class: u8,
@@ -51,7 +51,7 @@ pub struct NppListed {
 // What a call that reads a loss gives: the number of its refusal or 0; whether there are records, 1 or 0; the loss in sixtieths of a thousandth of a cent, and in
 // whole cents.
 #[repr(C)]
-#[derive(Drop)]
+#[derive(Clone, Copy)]
 pub struct NppLoss {
     pub refusal: u8,
     pub held: u8,
@@ -61,7 +61,7 @@ pub struct NppLoss {
 
 // What comparing two plans gives: the number of its refusal or 0, and how many differences there are.
 #[repr(C)]
-#[derive(Drop)]
+#[derive(Clone, Copy)]
 pub struct NppCompared {
     pub refusal: u8,
     pub differences: usize,

@@ -76,7 +76,7 @@ fn lent_in_range(
 // WHAT A CALL IS DUE
 
 // In units; or no row of the price list fits.
-#[derive(Drop)]
+#[derive(Clone, Copy)]
 pub enum Due {
     Units(usize),
     NoPrice,
@@ -115,7 +115,7 @@ fn due_of(prices: &[u8], body: &[u8], outcome: u8, outgoing: &[u8]) -> Due
 // THE ENTRY
 
 // How charging ended: a refusal, or 0, and the whole's totals behind it.
-#[derive(Drop)]
+#[derive(Clone, Copy)]
 pub struct Charged {
     pub refusal: u8,
     pub whole: Totals,

@@ -33,7 +33,7 @@ const NO_SET: u16 = 65535;
 // Whether the sets that the rules at two places name have the same content, whatever their numbers.
 fn same_sets<'a>(left: &'a [u8], i: RulePlace, right: &'a [u8], j: RulePlace) -> bool
     requires both_sound { BothSound left.now right.now }
-    requires i_bound { (i.0 + 1 ≤ rule_count left.now) × (j.0 + 1 ≤ rule_count right.now) }
+    requires places { (i.0 + 1 ≤ rule_count left.now) × (j.0 + 1 ≤ rule_count right.now) }
     ensures { result ≡ same_content_at (plan_of left.now) (plan_of right.now) i.0 j.0 }
 {
     buffer::same_bytes(plan::content_at(left, i), plan::content_at(right, j))
@@ -42,7 +42,7 @@ fn same_sets<'a>(left: &'a [u8], i: RulePlace, right: &'a [u8], j: RulePlace) ->
 // The rules at two places that are there.
 fn kind_of<'a>(left: &'a [u8], i: RulePlace, right: &'a [u8], j: RulePlace) -> u8
     requires both_sound { BothSound left.now right.now }
-    requires i_bound { (i.0 + 1 ≤ rule_count left.now) × (j.0 + 1 ≤ rule_count right.now) }
+    requires places { (i.0 + 1 ≤ rule_count left.now) × (j.0 + 1 ≤ rule_count right.now) }
     ensures { result ≡ kind_at (plan_of left.now) (plan_of right.now) i.0 j.0 }
 {
     match filter::order_filters(plan::rule_slot(left, i), plan::rule_slot(right, j)) {

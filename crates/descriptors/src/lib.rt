@@ -5,7 +5,7 @@ ghost use Rattle.std.specs.Prelude.{◌≡◌, ◌+◌, ◌≤◌, length};
 ghost use Rattle.descriptors.specs.Moves.{MOST, new_source, at_hand, Fillable, FillPromise, new_sink, sent, Writable, WritePromise};
 
 // A descriptor that is read: how many bytes it gave, whether it has come to its end, and whether a read failed.
-#[derive(Drop)]
+#[derive(Clone, Copy)]
 pub struct Source {
     fd: i32,
     given: u64,
@@ -14,7 +14,7 @@ pub struct Source {
 }
 
 // A descriptor that is written: how many bytes it took in writes that did not fail, and whether one failed.
-#[derive(Drop)]
+#[derive(Clone, Copy)]
 pub struct Sink {
     fd: i32,
     written: u64,
@@ -22,7 +22,7 @@ pub struct Sink {
 }
 
 // How many bytes are at hand at the front of the input, and the source that they came from.
-#[derive(Drop)]
+#[derive(Clone, Copy)]
 pub struct AtHand {
     pub end: usize,
     pub source: Source,

@@ -115,7 +115,7 @@ fn slots_pass(sets: &[u8], room: usize) -> bool
 
 // Whether the set that a rule names is held and fits the rule's filter.
 fn fits_held(slot: &[u8], sets: &[u8], room: usize) -> bool
-    requires slot_len { (length slot.now ≡ RULE-WIDTH) × (SET-WIDTH * room ≤ length sets.now) }
+    requires sizes { (length slot.now ≡ RULE-WIDTH) × (SET-WIDTH * room ≤ length sets.now) }
     requires filter_bytes { FilterBytes slot.now }
     ensures { result ≡ set_fits room sets.now (rule_of slot.now) }
 {
@@ -136,8 +136,8 @@ fn fits_held(slot: &[u8], sets: &[u8], room: usize) -> bool
 
 // Whether a rule slot that is held has a filter in range, nothing behind its set number, and a set that is held and fits it.
 fn rule_passes(slot: &[u8], sets: &[u8], room: usize, masks: &[u8]) -> bool
-    requires slot_len { (length slot.now ≡ RULE-WIDTH) × (SET-WIDTH * room ≤ length sets.now) }
-    requires masks_value { masks.now ≡ mask_table }
+    requires sizes { (length slot.now ≡ RULE-WIDTH) × (SET-WIDTH * room ≤ length sets.now) }
+    requires table_made { masks.now ≡ mask_table }
     ensures { result ≡ rule_test room sets.now slot.now }
 {
     if !filter::filter_in_range_by(slot, masks) {
@@ -152,7 +152,7 @@ fn rule_passes(slot: &[u8], sets: &[u8], room: usize, masks: &[u8]) -> bool
 // Whether each of the rule slots that are held passes, by a table of masks that is made once for them.
 fn rules_pass_by(sets: &[u8], room: usize, rules: &[u8], count: usize, masks: &[u8]) -> bool
     requires areas { Areas room sets.now count rules.now }
-    requires masks_value { masks.now ≡ mask_table }
+    requires table_made { masks.now ≡ mask_table }
     ensures { result ≡ all (rule_test room sets.now) (slots RULE-WIDTH count rules.now) }
 {
     let mut i = 0;

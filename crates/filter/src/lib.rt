@@ -1,4 +1,6 @@
 // Filters as bytes: range and listing order; and the lookup of a filter among rule slots.
+#![tactic(auto)]
+
 ghost use Rattle.std.specs.Prelude.{◌≡◌, ◌+◌, ◌*◌, ◌≤◌, ◌<◌, length, take, drop};
 ghost use Rattle.meaning.specs.Sizes.{FILTER-BYTES, RULE-WIDTH};
 ghost use Rattle.meaning.specs.Basics.{begins_with};
@@ -103,8 +105,8 @@ pub fn order_lengths(l: u8, m: u8) -> Order
 
 // The listing order of two filters.
 pub fn order_filters(a: &[u8], b: &[u8]) -> Order
-    requires filter_bytes { FilterBytes a.now }
-    requires filter_bytes_2 { FilterBytes b.now }
+    requires a_bytes { FilterBytes a.now }
+    requires b_bytes { FilterBytes b.now }
     ensures { ordering_of result ≡ compare_filters (filter_of a.now) (filter_of b.now) }
 {
     if a[CLASS_AT] < b[CLASS_AT] {

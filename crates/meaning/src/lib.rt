@@ -12,18 +12,18 @@ pub mod sa;
 pub mod sizes;
 
 // A class of numbers: INTL, NATL, UNKNOWN and three house classes.
-#[derive(Drop)]
+#[derive(Clone, Copy)]
 pub struct Class(u8);
 
 // What a byte is as a class.
-#[derive(Drop)]
+#[derive(Clone, Copy)]
 pub enum ClassOf {
     Known(Class),
     Unknown,
 }
 
 // What a byte is as an outgoing class.
-#[derive(Drop)]
+#[derive(Clone, Copy)]
 pub enum OutgoingOf {
     Given(Class),
     AsIncoming,
@@ -82,15 +82,15 @@ impl Class {
 }
 
 // The number of a set.
-#[derive(Drop)]
+#[derive(Clone, Copy)]
 pub struct SetNumber(pub u16);
 
 // A rule's place in the listing.
-#[derive(Drop)]
+#[derive(Clone, Copy)]
 pub struct RulePlace(pub u16);
 
 // The refusals of document 01 and of C-11.
-#[derive(Drop)]
+#[derive(Clone, Copy)]
 pub enum Refusal {
     Cut,
     Kind,
@@ -135,7 +135,7 @@ impl Refusal {
 }
 
 // What opening and provisioning answer.
-#[derive(Drop)]
+#[derive(Clone, Copy)]
 pub enum Provisioned {
     Accepted,
     Refused(Refusal),
@@ -154,42 +154,42 @@ impl Provisioned {
 }
 
 // What a call that writes answers: how many bytes.
-#[derive(Drop)]
+#[derive(Clone, Copy)]
 pub enum Written {
     Bytes(usize),
     Refused(Refusal),
 }
 
 // What a call that counts answers.
-#[derive(Drop)]
+#[derive(Clone, Copy)]
 pub enum Counted {
     Rules(usize),
     Refused(Refusal),
 }
 
 // What comparing two plans answers: how many differences there are.
-#[derive(Drop)]
+#[derive(Clone, Copy)]
 pub enum Compared {
     Differences(usize),
     Refused(Refusal),
 }
 
 // The rule chosen for a number.
-#[derive(Drop)]
+#[derive(Clone, Copy)]
 pub enum Chosen {
     At(RulePlace),
     NoRule,
 }
 
 // Where a filter stands in the listing, or where adding would put it.
-#[derive(Drop)]
+#[derive(Clone, Copy)]
 pub enum FilterPlace {
     Held(RulePlace),
     Absent(RulePlace),
 }
 
 // The listing order of two filters.
-#[derive(Drop)]
+#[derive(Clone, Copy)]
 pub enum Order {
     Before,
     Same,
@@ -198,7 +198,7 @@ pub enum Order {
 
 // The answer to a number. The digits themselves stand at the front of the lent buffer.
 #[repr(C)]
-#[derive(Drop)]
+#[derive(Clone, Copy)]
 pub struct Answered {
     pub refusal: u8,
     pub outcome: u8,
@@ -211,7 +211,7 @@ pub struct Answered {
 
 // A stretch of the incoming number: where it starts, and how many digits it has.
 #[repr(C)]
-#[derive(Drop)]
+#[derive(Clone, Copy)]
 pub struct Span {
     pub start: usize,
     pub count: usize,
@@ -219,7 +219,7 @@ pub struct Span {
 
 // A rule of the listing: its filter's class, how many digits its prefix has, the prefix at its full width with unused bytes 0, the length, and
 // the set that it names. Where there is a refusal: its number, and every other field 0.
-#[derive(Drop)]
+#[derive(Clone, Copy)]
 pub struct ListedRule {
     pub refusal: u8,
     pub class: u8,
@@ -231,7 +231,7 @@ pub struct ListedRule {
 
 // What a ledger holds of a district, or of the whole: how many records, and their due and billed in sixtieths of a thousandth of a cent.
 #[repr(C)]
-#[derive(Drop)]
+#[derive(Clone, Copy)]
 pub struct Totals {
     pub count: i64,
     pub due: i64,
@@ -239,21 +239,21 @@ pub struct Totals {
 }
 
 // What taking a call record answers: the number's answer, and the whole's totals afterwards.
-#[derive(Drop)]
+#[derive(Clone, Copy)]
 pub struct Taken {
     pub answer: Answered,
     pub whole: Totals,
 }
 
 // A loss: in sixtieths of a thousandth of a cent, and in whole cents.
-#[derive(Drop)]
+#[derive(Clone, Copy)]
 pub struct Loss {
     pub units: i64,
     pub cents: i64,
 }
 
 // What a call that reads a loss answers.
-#[derive(Drop)]
+#[derive(Clone, Copy)]
 pub enum LossAnswer {
     Loss(Loss),
     NoRecords,

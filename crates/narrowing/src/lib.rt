@@ -10,7 +10,7 @@ use meaning::sizes::{CLASS_AT, LENGTH_AT, PREFIX_AT, PREFIX_DIGITS_AT, RULE_WIDT
 use meaning::{Chosen, RulePlace};
 
 // The places from `lo` to before `hi`.
-#[derive(Drop)]
+#[derive(Clone, Copy)]
 struct Places {
     lo: usize,
     hi: usize,
@@ -70,7 +70,7 @@ pub fn choose_among(
     digits: &[u8],
 ) -> Chosen
     requires rule_area { RuleArea count rules.now }
-    requires rules_value { rules_in_order (rules_of count rules.now) ≡ true }
+    requires rules_rise { rules_in_order (rules_of count rules.now) ≡ true }
     requires narrowed { Narrowed rules.now 0 count CLASS-AT class from to }
     ensures { place_chosen result ≡ chosen_place class digits.now (rules_of count rules.now) }
 {
@@ -104,7 +104,7 @@ pub fn choose_among(
 // The rule for a number among the first `count` slots, which are in listing order.
 pub fn choose(rules: &[u8], count: usize, class: u8, digits: &[u8]) -> Chosen
     requires rule_area { RuleArea count rules.now }
-    requires rules_value { rules_in_order (rules_of count rules.now) ≡ true }
+    requires rules_rise { rules_in_order (rules_of count rules.now) ≡ true }
     ensures { place_chosen result ≡ chosen_place class digits.now (rules_of count rules.now) }
 {
     let p = narrow(rules, 0, count, CLASS_AT, buffer::wide(class));

@@ -21,7 +21,7 @@ use meaning::{Chosen, FilterPlace, Order, Provisioned, Refusal, RulePlace};
 const PRICE_LIMIT: usize = 1000000;
 
 // What a price list says of a call: its price per minute in thousandths of a cent, or that no row fits.
-#[derive(Drop)]
+#[derive(Clone, Copy)]
 pub enum Priced {
     PerMinute(usize),
     NoPrice,
@@ -51,7 +51,7 @@ fn row_passes(slot: &[u8], masks: &[u8]) -> bool
 
 // Whether a slot passes and its prefix stands behind that of the slot before it.
 fn row_follows(before: &[u8], slot: &[u8], masks: &[u8]) -> bool
-    requires slot_len { (length slot.now ≡ RULE-WIDTH) × (masks.now ≡ mask_table) }
+    requires slot_and_masks { (length slot.now ≡ RULE-WIDTH) × (masks.now ≡ mask_table) }
     requires filter_bytes { FilterBytes before.now }
     ensures { result ≡ next_test before.now slot.now }
 {
@@ -168,7 +168,7 @@ fn write_row(slot: &mut [u8], body: &[u8])
 
 // A row's slot put in before the row at a place.
 fn insert_row(prices: &mut [u8], place: RulePlace, slot: &[u8])
-    requires prices_value { (prices_in_range prices.old ≡ true) × (place.0 ≤ length (rows_in prices.old)) × (length (rows_in prices.old) < PRICE-ROOM) }
+    requires list_in_range { (prices_in_range prices.old ≡ true) × (place.0 ≤ length (rows_in prices.old)) × (length (rows_in prices.old) < PRICE-ROOM) }
     requires row_slot { RowSlot slot.now }
     ensures { prices.new ≡ prices_image (insert_at place.0 (row_of slot.now) (rows_in prices.old)) }
 {
@@ -180,7 +180,7 @@ fn insert_row(prices: &mut [u8], place: RulePlace, slot: &[u8])
 
 // A row's slot put in at its place in prefix order, where its prefix is not held and a slot is free.
 fn place_row(prices: &mut [u8], slot: &[u8]) -> Provisioned
-    requires prices_value { prices_in_range prices.old ≡ true }
+    requires list_in_range { prices_in_range prices.old ≡ true }
     requires row_slot { RowSlot slot.now }
     ensures { PlacesRow prices.old (row_of slot.now) prices.new (number_of_provisioned result) }
 {

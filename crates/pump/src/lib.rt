@@ -9,7 +9,7 @@ use record::{Run, Stepped};
 
 // What the steps over the input at hand did: how many bytes they took and wrote, the state behind them, and whether the output is full or reading has ended, with a
 // refusal or 0; else the input holds no whole record any more.
-#[derive(Drop)]
+#[derive(Clone, Copy)]
 pub struct Pumped {
     pub taken: usize,
     pub written: usize,

@@ -112,7 +112,7 @@ fn asd_or_grn_in_range(kind: u8, digits: &[u8], masks: &[u8]) -> bool
 // Whether a lookup is in range.
 fn lookup_in_range(lookup: &[u8], masks: &[u8]) -> bool
     requires lookup_len { length lookup.now ≡ LOOKUP-BYTES }
-    requires masks_value { masks.now ≡ mask_table }
+    requires table_made { masks.now ≡ mask_table }
     ensures { result ≡ lookup_in_range lookup.now }
 {
     let kind = lookup[0];

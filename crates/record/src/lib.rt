@@ -37,7 +37,7 @@ const LOSS_RECORD: usize = 1;
 
 // The state of a run beside what is lent to it: whether an opening was accepted, how many lines of a listing or of the losses are counted already, and the whole's
 // totals of the ledger.
-#[derive(Drop)]
+#[derive(Clone, Copy)]
 pub struct Run {
     pub opened: bool,
     pub lines: u16,
@@ -45,7 +45,7 @@ pub struct Run {
 }
 
 // A line was written: how many bytes of the input it took, how many it has, and the state behind it.
-#[derive(Drop)]
+#[derive(Clone, Copy)]
 pub struct Line {
     pub taken: usize,
     pub written: usize,
@@ -53,14 +53,14 @@ pub struct Line {
 }
 
 // Reading has ended: how many bytes the last line has, and the refusal that it writes; no line, and 0, where the input has come to its end.
-#[derive(Drop)]
+#[derive(Clone, Copy)]
 pub struct Last {
     pub written: usize,
     pub refusal: u8,
 }
 
 // What a step answers.
-#[derive(Drop)]
+#[derive(Clone, Copy)]
 pub enum Stepped {
     Wrote(Line),
     // the input has no whole record yet
@@ -71,7 +71,7 @@ pub enum Stepped {
 }
 
 // What a step over anything lent answers: the memory is too small for a run's plan, or the price list or the ledger is out of range; or what the step answers.
-#[derive(Drop)]
+#[derive(Clone, Copy)]
 pub enum AnyStep {
     Unfit,
     Took(Stepped),
@@ -222,7 +222,7 @@ fn has_number(kind: u8) -> bool
 }
 
 // Where the number of a record at the front of the input begins; or the record is cut, or it is refused before its number is looked at.
-#[derive(Drop)]
+#[derive(Clone, Copy)]
 pub enum NumberPlace {
     At(usize),
     Cut,

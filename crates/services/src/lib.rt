@@ -15,7 +15,7 @@ const RELAY: u8 = 1;
 
 // What the service actions have come to: those carried out, and their count; the response, 0 for none; whether formatting is withheld;
 // and whether CDPNNP, ASDLKUP and GRNLKUP were carried out, which decides the values that are set.
-#[derive(Drop)]
+#[derive(Clone, Copy)]
 pub struct Served {
     pub actions: [u8; 8],
     pub count: u8,
@@ -27,7 +27,7 @@ pub struct Served {
 }
 
 // What the actions have come to beside the list of them.
-#[derive(Drop)]
+#[derive(Clone, Copy)]
 pub struct Effect {
     pub response: u8,
     pub withheld: bool,

@@ -17,7 +17,7 @@ use record::Run;
 
 // Where a copy stands between two turns: the state of the run, the source and the sink, and the bytes of the input that are at hand, from `at` to `end`: those
 // before `at` are taken.
-#[derive(Drop)]
+#[derive(Clone, Copy)]
 pub struct Rest {
     pub run: Run,
     pub source: Source,
@@ -28,7 +28,7 @@ pub struct Rest {
 
 // Reading has ended: the refusal that ended it, or 0 where the file has come to its end; the place in the file of that record's kind byte, counted from 0, or
 // the file's length; and where the copy stands.
-#[derive(Drop)]
+#[derive(Clone, Copy)]
 pub struct Ending {
     pub refusal: u8,
     pub place: u64,
@@ -36,7 +36,7 @@ pub struct Ending {
 }
 
 // How a turn ended, or all of them: it goes on, reading has ended, a read or a write failed, or the turns are spent.
-#[derive(Drop)]
+#[derive(Clone, Copy)]
 pub enum Turned {
     Goes(Rest),
     Done(Ending),
@@ -216,7 +216,7 @@ pub fn copy(
     output: &mut [u8],
 ) -> Turned
     requires in_bounds { (RUN-BYTES ≤ length plan.old) × (length prices.old ≡ PRICES-BYTES) × (LONGEST-RECORD ≤ length input.old) × (LONGEST ≤ length output.old) }
-    requires input_len_bound { (length input.old ≤ BUFFER) × (length output.old ≤ BUFFER) }
+    requires small_buffers { (length input.old ≤ BUFFER) × (length output.old ≤ BUFFER) }
     ensures { CopyPromise from to (length plan.old) input.old output.old (lent plan.new prices.new districts.new (rest_in result).run.whole) input.new output.new result }
 {
     let run = begin(plan, prices, districts);

@@ -1,4 +1,6 @@
 // The text of each line that a record writes, at the front of a lent buffer; the bytes behind it stay.
+#![tactic(auto)]
+
 ghost use Rattle.std.specs.Prelude.{◌≡◌, ◌++◌, [], ◌∷◌, map, ◌+◌, ◌≤◌, ◌<◌, length, take, T, nat_abs};
 ghost use Rattle.meaning.specs.Basics.{all, is_digit, written_over};
 ghost use Rattle.meaning.specs.Answers.{number_of_provisioned, count_of};

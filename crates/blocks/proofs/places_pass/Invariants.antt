@@ -1,0 +1,18 @@
+-- The places before i have passed (`PassedTo`); the last block may begin before i. What a window tells of its places is `window_pass`.
+use Prim.Native.Nat.{◌+◌, ◌-◌, ◌≤◌, zero-le}
+use mathlib.Core.Path.{◌≡◌, refl, sym, ap, ◌∙◌}
+use native.Mathlib.Omega.{arith}
+use lib.ListN.{length}
+use borrow.Author.Rules.{rules}
+use borrow.Author.Tests.{not-true, not-false}
+use Rattle.blocks.specs.Places.{mask_table}
+use Rattle.blocks.proofs.EndianLaws.{Bytes}
+use Rattle.blocks.proofs.PlaceLaws.{PassedTo, block_fails, block_passes, block_last}
+use Rattle.blocks.proofs.MaskLaws.{table_long, window_pass}
+use Rattle.blocks.proofs.places_pass.Given as goal
+
+abbrev pub invariant-loop-i : goal.invariant-loop-i
+invariant-loop-i l = (l.i ≤ length l.s) × (l.last + 8 ≡ length l.s) × (length l.s ≤ 32) × (l.n ≤ 32) × (length l.masks ≡ 64) × (l.masks ≡ mask_table) × Bytes l.s × PassedTo l.n l.s l.i
+
+abbrev pub decreases-loop-i : goal.decreases-loop-i
+decreases-loop-i l = l.last - l.i
