@@ -1,4 +1,6 @@
 // The ledger: its range, one record more, and the loss of a district and of the whole.
+#![tactic(auto)]
+
 ghost use Rattle.std.specs.Prelude.{◌≡◌, true, ◌-◌, ◌≤◌, ◌<◌, pos, length, replicate};
 ghost use Rattle.std.specs.Int.Signed.{le_z};
 ghost use Rattle.meaning.specs.Sizes.{DISTRICTS};

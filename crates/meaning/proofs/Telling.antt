@@ -35,8 +35,15 @@ refuses_unless others e h = rw (failed e h)
 pub goes_on_where : {r test : Bool} (number : ℕ) {others n : ℕ} → r ≡ test → not r ≡ false → n ≡ others → n ≡ (if not test then number else others)
 goes_on_where number e h f = rw (passed e h) f
 
+-- and for that check where the code's own test of it is known to be false, or true
+pub refuses_where_not : {r test : Bool} {number : ℕ} (others : ℕ) → r ≡ test → r ≡ false → number ≡ (if not test then number else others)
+refuses_where_not others e h = rw (told e h)
+
+pub goes_on_if : {r test : Bool} (number : ℕ) {others n : ℕ} → r ≡ test → r ≡ true → n ≡ others → n ≡ (if not test then number else others)
+goes_on_if number e h f = rw (told e h) f
+
 -- a refusal by checks, each answered by a function that promises just its test
-pub ruleset checks = (refuses, goes_on, refuses_unless, goes_on_where)
+pub ruleset checks = (refuses, goes_on, refuses_unless, goes_on_where, refuses_where_not, goes_on_if)
 
 -- THE NUMBER OF AN ANSWER
 

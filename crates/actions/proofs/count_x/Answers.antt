@@ -8,6 +8,7 @@ use borrow.Author.Rules.{rules}
 use Rattle.meaning.specs.Basics.{count}
 use Rattle.meaning.specs.Actions.{is_x, cas_of}
 use Rattle.actions.proofs.count_x.Goals as goal
+use Rattle.actions.proofs.count_x.Goals.{then-is_x, else-is_x}
 
 pub returns-then-a-eq0 : goal.returns-then-a-eq0
 returns-then-a-eq0 c = omega (arith, ap (count is_x) (c.action_at-a.ensures.ends c.if-a-eq0.true), c.loop-a.invariant.2)
@@ -24,5 +25,7 @@ loop-a-smaller c = omega (arith, c.action_at-a.ensures.inside c.if-a-eq0.false)
 pub loop-a-preserved : goal.loop-a-preserved
 loop-a-preserved c = let h = c.action_at-a.ensures.inside c.if-a-eq0.false in
     let e = ap (count is_x) (c.action_at-a.ensures.goes c.if-a-eq0.false) in
-    ⊎_elim (λ w. (h, omega arith, omega (arith, rw (sym c.is_x.ensures ∙ w.0.taken) at e, c.loop-a.invariant.2)))
-    (λ w. (h, omega arith, omega (arith, rw (sym c.is_x.ensures ∙ w.0.left) at e, c.loop-a.invariant.2))) c.if-is_x.branch
+    elim c.if-is_x.branch [
+      then-is_x w ↦ (h, omega arith, omega (arith, rw (sym c.is_x.ensures ∙ w.if-is_x.true) at e, c.loop-a.invariant.2, w.n-is))
+    | else-is_x w ↦ (h, omega arith, omega (arith, rw (sym c.is_x.ensures ∙ w.if-is_x.false) at e, c.loop-a.invariant.2, w.n-is))
+    ]

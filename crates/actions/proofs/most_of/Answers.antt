@@ -26,8 +26,7 @@ returns-in-3 c = sym (ap most_of c.in-3.is)
 
 pub returns-in-4-to-6 : goal.returns-in-4-to-6
 unfolding most_of
-returns-in-4-to-6 c = let r = c.in_default-1.rest in
-    arm most_of (λ c. 15) 4 6 tt c.args.code (past_three _ (search rules) r.0.0.1 r.0.1 r.1) (search rules)
+returns-in-4-to-6 c = arm most_of (λ c. 15) 4 6 tt c.args.code (search rules) (search rules)
 
 pub returns-in-7-to-10 : goal.returns-in-7-to-10
 unfolding most_of

@@ -5,8 +5,8 @@ use Rattle.text.proofs.LineTexts.{accepted_is, not_accepted_is}
 use borrow.Author.Rules.{rules}
 use Rattle.text.proofs.accepted_line.Goals as goal
 
-returns-2 : tie.Need-returns-2
-returns-2 c = named (not_accepted_is c.before.before.before.before.before.before.answer.given.1 c.before.before.before.before.number.ensures) c.before.before.no_line.ensures
+pub returns-in-Accepted : goal.returns-in-Accepted
+returns-in-Accepted c = named (accepted_is c.enum_told-1.given.1) (over _ (omega (arith, c.requires)) c.copy.ensures)
 
-pub shape_of-out-in-Refused : goal.shape_of-out-in-Refused
-shape_of-out-in-Refused c = named (accepted_is c.enum_told.given.1) (over _ (omega (arith, c.requires)) c.copy.ensures)
+pub returns-in-Refused : goal.returns-in-Refused
+returns-in-Refused c = named (not_accepted_is c.in-Refused.is c.number.ensures) c.no_line.ensures

@@ -5,11 +5,11 @@ use Rattle.text.proofs.LineTexts.{counted_is, counted_few, not_counted_is}
 use borrow.Author.Rules.{rules}
 use Rattle.text.proofs.refs_line.Goals as goal
 
-returns-2 : tie.Need-returns-2
-returns-2 c = named (not_counted_is c.before.before.before.before.before.before.answer2.given.1 c.before.before.before.before.number.ensures) c.before.before.no_line.ensures
+pub write_counted-requires : goal.write_counted-requires
+write_counted-requires c = (counted_few c.in-Rules.is c.requires.0, omega arith)
 
-pub enum_known-answer-in-Refused-1 : goal.enum_known-answer-in-Refused-1
-enum_known-answer-in-Refused-1 c = (counted_few c.before.before.before.answer.given.1 c.before.before.before.before.before.before.requires.0, omega arith)
+pub returns-in-Rules : goal.returns-in-Rules
+returns-in-Rules c = named (counted_is c.in-Rules.is) c.write_counted.ensures
 
-pub shape_of-out-in-Refused : goal.shape_of-out-in-Refused
-shape_of-out-in-Refused c = named (counted_is c.answer.given.1) c.write-counted.ensures
+pub returns-in-Refused : goal.returns-in-Refused
+returns-in-Refused c = named (not_counted_is c.in-Refused.is c.number.ensures) c.no_line.ensures

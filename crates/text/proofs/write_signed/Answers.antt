@@ -6,18 +6,15 @@ use Rattle.text.proofs.Losses.{size_short, below_is, above_is}
 use borrow.Author.Rules.{rules}
 use Rattle.text.proofs.write_signed.Goals as goal
 
-returns-2 : tie.Need-returns-2
-returns-2 c =
-    let g = c.before.before.before.before.before.before.before in
-    named (above_is g.args.x g.ranges.x c.before.before.before.before.before.size.ensures g.args.behind c.before.before.before.before.if1.false) c.before.before.write-number2.ensures
+pub write_number-requires : goal.write_number-requires
+write_number-requires c = omega (arith, size_short c.args.x c.ranges.x c.size-n.ensures c.requires.0, c.requires.1)
 
-pub overflow_add-result : goal.overflow_add-result
-overflow_add-result c = omega (arith, size_short c.args.x c.ranges.x c.size-n.ensures c.requires.0, c.requires.1)
+pub returns-then-x-lt0 : goal.returns-then-x-lt0
+returns-then-x-lt0 c = named (below_is c.args.x c.ranges.x c.size-n.ensures c.args.behind c.if-x-lt0.true)
+    (text_behind (over (45 ∷ []) (omega arith) c.copy.ensures) c.write_number.ensures)
 
 pub write_number-requires-2 : goal.write_number-requires-2
-write_number-requires-2 c = let g = c.before.before.before.before.before.before.before.before.before.before.before.before in
-    named (below_is g.args.x g.ranges.x c.before.before.before.before.before.before.before.before.before.before.size.ensures g.args.behind c.before.before.before.before.before.before.before.before.before.if1.true)
-    (text_behind (over (45 ∷ []) (omega arith) c.before.before.before.before.before.before.copy.ensures) c.write-number.ensures)
+write_number-requires-2 c = omega (arith, size_short c.args.x c.ranges.x c.size-n.ensures c.requires.0, c.requires.1)
 
-pub shape_of-out : goal.shape_of-out
-shape_of-out c = omega (arith, size_short c.args.x c.ranges.x c.size-n.ensures c.requires.0, c.requires.1)
+pub returns : goal.returns
+returns c = named (above_is c.args.x c.ranges.x c.size-n.ensures c.args.behind c.if-x-lt0.false) c.write_number-2.ensures
