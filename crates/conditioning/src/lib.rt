@@ -1,4 +1,6 @@
 // Conditioning: which stretch of the incoming number each conditioning action takes.
+#![tactic(auto)]
+
 ghost use Rattle.std.specs.Prelude.{◌≡◌, false, ◌<◌, length};
 ghost use Rattle.meaning.specs.Basics.{if◌then◌else◌};
 ghost use Rattle.meaning.specs.Actions.{cas_of, is_x};

@@ -1,4 +1,6 @@
 // The group rules of a set's actions.
+#![tactic(auto)]
+
 ghost use Rattle.std.specs.Prelude.{◌≡◌, ◌||◌, not, length};
 ghost use Rattle.meaning.specs.Sizes.{CONTENT-BYTES};
 ghost use Rattle.meaning.specs.Basics.{all, all_of, is_zero};

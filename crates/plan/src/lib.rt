@@ -1,4 +1,6 @@
 // The plan memory: readers in the plan's own words, and the edits, over a sound plan.
+#![tactic(auto)]
+
 ghost use Rattle.std.specs.Prelude.{◌≡◌, true, ◌++◌, ◌+◌, ◌*◌, ◌≤◌, ◌<◌, length, drop, get_or};
 ghost use Rattle.std.proofs.Math.Option.{none, some};
 ghost use Rattle.meaning.specs.Sizes.{ROOMS-BYTES, SETTINGS-BYTES, CONTENT-BYTES, FILTER-BYTES, HEADER-BYTES, SETS-AT, SET-WIDTH, RULE-WIDTH};

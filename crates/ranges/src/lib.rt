@@ -1,4 +1,6 @@
 // RANGE of an opening's rooms and settings, and of a number: its class, its digits and its lookup.
+#![tactic(auto)]
+
 ghost use Rattle.std.specs.Prelude.{◌≡◌, length};
 ghost use Rattle.meaning.specs.Sizes.{ROOMS-BYTES, SETTINGS-BYTES, LOOKUP-BYTES, NUMBER-BYTES};
 ghost use Rattle.meaning.specs.Basics.{if◌then◌else◌, all, within};

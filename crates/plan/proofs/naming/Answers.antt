@@ -1,0 +1,29 @@
+-- What is left to count decides; i is the place of the first rule left.
+use Prim.Native.Nat.{◌≤◌, ◌*◌, ◌-◌}
+use mathlib.Core.Path.{ap}
+use mathlib.Core.Logic.{⊎_elim}
+use native.Mathlib.Omega.{arith}
+use lib.ListN.{length}
+use borrow.Author.Rules.{rules}
+use Rattle.meaning.specs.Sizes.{RULE-WIDTH}
+use Rattle.meaning.specs.declared.SetNumber.{SetNumber}
+use Rattle.plan.proofs.ReadLaws.{Counting, counting_none, counting_named, counting_other, counting_all}
+use Rattle.plan.proofs.naming.Goals as goal
+
+pub loop-i-init : goal.loop-i-init
+loop-i-init c = (omega arith, c.requires.few, c.requires.room, omega arith, counting_none c.args.set.0 c.args.area.now c.args.held)
+
+pub loop-i-preserved : goal.loop-i-preserved
+loop-i-preserved c = let l = c.loop-i in
+    let a = c.args in
+    let t = c.loop-i-test.true in
+    let e = ap (λ (s : SetNumber). s.0) c.set_at-named.ensures in
+    ⊎_elim
+    (λ w. (omega arith, l.invariant.1, l.invariant.2, omega arith, rw w.1 (counting_named a.set.0 a.area.now a.held l.i l.n l.invariant.4 _ t e w.0.taken)))
+    (λ w. (omega arith, l.invariant.1, l.invariant.2, omega arith, rw w.1 (counting_other a.set.0 a.area.now a.held l.i l.n l.invariant.4 _ t e w.0.left)))
+    c.if-named-wanted.branch
+
+pub returns : goal.returns
+returns c = let l = c.loop-i in
+    let a = c.args in
+    counting_all a.set.0 a.area.now a.held l.i l.n l.invariant.4 c.loop-i-test.false

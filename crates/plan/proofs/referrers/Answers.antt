@@ -1,0 +1,25 @@
+-- The rules of the area are the plan's.
+use mathlib.Core.Path.{ap, ◌∙◌}
+use mathlib.Core.List.{List}
+use Prim.Native.Nat.{ℕ}
+use borrow.Author.Rules.{rules}
+use Rattle.meaning.specs.Basics.{count}
+use Rattle.meaning.specs.Rules.{Rule, names}
+use Rattle.meaning.specs.Plan.{referrers}
+use Rattle.filter.specs.Slots.{rules_of}
+use Rattle.plan.proofs.ReadLaws.{numbers}
+use Rattle.plan.proofs.referrers.Goals as goal
+
+pub rule_count-requires : goal.rule_count-requires
+rule_count-requires c = (numbers c.args.memory.now c.requires).header
+
+pub naming-requires : goal.naming-requires
+naming-requires c = rw c.rule_count.ensures.is c.rules.ensures.area
+
+pub returns : goal.returns
+unfolding referrers
+returns c = let rules = c.rules in
+    let n = c.args.set.0 in
+    c.naming.ensures
+    ∙ ap (λ (k : ℕ). count (names n) (rules_of k rules.result.now)) c.rule_count.ensures.is
+    ∙ ap (λ (rs : List Rule). count (names n) rs) rules.ensures.rules
