@@ -1,4 +1,6 @@
 // The service stage: a set's service actions carried out in list order over a lookup.
+#![tactic(auto)]
+
 ghost use Rattle.std.specs.Prelude.{◌≡◌, ◌≤◌, length};
 ghost use Rattle.meaning.specs.Sizes.{SETTINGS-BYTES, LOOKUP-BYTES};
 ghost use Rattle.meaning.specs.Settings.{settings_of, lookup_of};

@@ -9,6 +9,7 @@ use Rattle.meaning.specs.Sizes.{RULE-WIDTH}
 use Rattle.meaning.specs.declared.SetNumber.{SetNumber}
 use Rattle.plan.proofs.ReadLaws.{Counting, counting_none, counting_named, counting_other, counting_all}
 use Rattle.plan.proofs.naming.Goals as goal
+use Rattle.plan.proofs.naming.Goals.{then-named-wanted, else-named-wanted}
 
 pub loop-i-init : goal.loop-i-init
 loop-i-init c = (omega arith, c.requires.few, c.requires.room, omega arith, counting_none c.args.set.0 c.args.area.now c.args.held)
@@ -18,10 +19,10 @@ loop-i-preserved c = let l = c.loop-i in
     let a = c.args in
     let t = c.loop-i-test.true in
     let e = ap (λ (s : SetNumber). s.0) c.set_at-named.ensures in
-    ⊎_elim
-    (λ w. (omega arith, l.invariant.1, l.invariant.2, omega arith, rw w.1 (counting_named a.set.0 a.area.now a.held l.i l.n l.invariant.4 _ t e w.0.taken)))
-    (λ w. (omega arith, l.invariant.1, l.invariant.2, omega arith, rw w.1 (counting_other a.set.0 a.area.now a.held l.i l.n l.invariant.4 _ t e w.0.left)))
-    c.if-named-wanted.branch
+    elim c.if-named-wanted.branch [
+      | then-named-wanted w ↦ (omega arith, l.invariant.1, l.invariant.2, omega arith, rw w.n-is (counting_named a.set.0 a.area.now a.held l.i l.n l.invariant.4 _ t e w.if-named-wanted.true))
+      | else-named-wanted w ↦ (omega arith, l.invariant.1, l.invariant.2, omega arith, rw w.n-is (counting_other a.set.0 a.area.now a.held l.i l.n l.invariant.4 _ t e w.if-named-wanted.false))
+    ]
 
 pub returns : goal.returns
 returns c = let l = c.loop-i in
