@@ -1,4 +1,6 @@
 // What a provisioning call promises, and what such calls ask of their bodies.
+#![tactic(auto)]
+
 ghost use Rattle.std.specs.Prelude.{◌≡◌, true, ◌+◌, ◌≤◌, ◌<◌, length};
 ghost use Rattle.meaning.specs.Sizes.{CONTENT-BYTES, SET-BODY, FILTER-BYTES};
 ghost use Rattle.meaning.specs.Basics.{is_some, word};

@@ -1,4 +1,6 @@
 // The examiner: whether a memory is a sound plan of this build. It looks at each slot once, and at each rule and the next.
+#![tactic(auto)]
+
 ghost use Rattle.std.specs.Prelude.{◌≡◌, ◌+◌, ◌*◌, ◌≤◌, length};
 ghost use Rattle.meaning.specs.Sizes.{SETS-AT, SET-WIDTH, RULE-WIDTH};
 ghost use Rattle.meaning.specs.Basics.{all, within};

@@ -1,4 +1,6 @@
 // Formatting: where the value of each formatting action lies, the outgoing digits, and the conditioned number.
+#![tactic(auto)]
+
 ghost use Rattle.std.specs.Prelude.{◌≡◌, [], ◌∷◌, ◌+◌, ◌≤◌, ◌<◌, length, take};
 ghost use Rattle.meaning.specs.Sizes.{SETTINGS-BYTES};
 ghost use Rattle.meaning.specs.Basics.{part, digits_of};

@@ -1,4 +1,6 @@
 // The rule for a number among rule slots in listing order: halved to the slots of the number's class, then digit by digit to those whose prefix it begins with.
+#![tactic(auto)]
+
 ghost use Rattle.std.specs.Prelude.{◌≡◌, true, ◌≤◌};
 ghost use Rattle.meaning.specs.Sizes.{CLASS-AT};
 ghost use Rattle.meaning.specs.Rules.{chosen_place, rules_in_order};
