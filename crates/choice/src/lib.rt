@@ -1,4 +1,6 @@
 // The rule chosen for a number over a sound plan.
+#![tactic(auto)]
+
 ghost use Rattle.std.specs.Prelude.{◌≡◌, true};
 ghost use Rattle.plan.specs.State.{sound_of};
 ghost use Rattle.choice.specs.Chosen.{ChoicePromise};

@@ -1,4 +1,6 @@
 // The listing: how many rules a plan holds, and the rule at a place in listing order; for any plan bytes and any place.
+#![tactic(auto)]
+
 ghost use Rattle.std.specs.Prelude.{◌≡◌, true, ◌<◌, length};
 ghost use Rattle.std.proofs.Math.Option.{none, some};
 ghost use Rattle.meaning.specs.Answers.{rule_listed};

@@ -1,4 +1,6 @@
 // The price list of C-11: whether a lent one is in range, the price of a call to some digits, and the row that is added.
+#![tactic(auto)]
+
 ghost use Rattle.std.specs.Prelude.{◌≡◌, true, ◌*◌, ◌≤◌, ◌<◌, length};
 ghost use Rattle.meaning.specs.Sizes.{RULE-WIDTH, PRICE-BODY, PRICE-ROOM};
 ghost use Rattle.meaning.specs.Prices.{row_given, row_in_range};

@@ -1,5 +1,7 @@
 // The calls about rules over a plan that is known to be sound, with a body of just its length: the refusal of each, by its checks in document 01's order,
 // and what an accepted one makes of the plan.
+#![tactic(auto)]
+
 ghost use Rattle.std.specs.Prelude.{◌≡◌, true, false, ◌&&◌, ◌||◌, not, ◌++◌, length, eqb};
 ghost use Rattle.meaning.specs.Sizes.{FILTER-BYTES, RULE-BODY};
 ghost use Rattle.meaning.specs.Basics.{is_some};

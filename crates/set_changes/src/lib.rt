@@ -1,5 +1,7 @@
 // Opening, and the calls about sets over a plan that is known to be sound, with a body of just its length: the refusal of each, by its checks in
 // document 01's order, and what an accepted one makes of the plan.
+#![tactic(auto)]
+
 ghost use Rattle.std.specs.Prelude.{◌≡◌, true, false, ◌&&◌, ◌||◌, not, ◌++◌, ◌+◌, ◌*◌, ◌<◌, length};
 ghost use Rattle.std.proofs.Math.Option.{none, some};
 ghost use Rattle.meaning.specs.Sizes.{OPENING-BYTES, SET-NUMBER-BYTES, CONTENT-BYTES, SET-BODY};

@@ -8,7 +8,7 @@ use native.Mathlib.Omega.{arith}
 use lib.Dec.{T}
 use lib.ListN.{length, take, set, length-append, length-take}
 use borrow.Author.Tests.{eq-eqb, ne_eqb}
-use Rattle.meaning.specs.Basics.{if◌then◌else◌, all, is_digit}
+use Rattle.meaning.specs.Basics.{all, is_digit}
 use Rattle.meaning.specs.Answer.{Answer}
 use Rattle.meaning.specs.Answers.{number_of_refusal, number_of_provisioned, count_of}
 use Rattle.meaning.specs.Records.{decimal, prefix_text, length_text, ok_line, no_line, accepted_line, number_line, refs_line, listed_line, end_line}

@@ -8,15 +8,18 @@ use Rattle.formatting.proofs.Values.{value_default, value_taken, value_not_defau
 use Rattle.formatting.proofs.Conditioned.{stretch_enough}
 use borrow.Author.Rules.{rules}
 use Rattle.formatting.proofs.conditioned_part.Goals as goal
+use Rattle.formatting.proofs.conditioned_part.Goals.{else-has_code-via-then-has_code+else-v-eq-CC, else-has_code-via-else-has_code}
 
 pub returns-then-v-eq-CC : goal.returns-then-v-eq-CC
 returns-then-v-eq-CC c = let a = c.args in
     let default = sym c.has_code.ensures ∙ c.if-has_code.true in
-    c.country_of.ensures ∙ value_default (settings_of a.settings.now).country a.digits.now a.prefix a.v (cas_of a.cas.now) (eqb-true a.v 1 c.if-v-eq-CC.true) default
+    c.country_of.ensures ∙ value_default (settings_of a.settings.now).country a.digits.now a.prefix a.v (cas_of a.cas.now) c.if-v-eq-CC.true default
 
 pub returns : goal.returns
 returns c = let a = c.args in
     let country = (settings_of a.settings.now).country in
     c.stretch_in.ensures ∙ stretch_enough a.v a.prefix (cas_of a.cas.now) a.digits.now c.requires.enough
-    ∙ ⊎_elim (λ w. value_taken country a.digits.now a.prefix a.v (cas_of a.cas.now) (eqb-false a.v 1 w.1.left))
-    (λ w. value_not_default country a.digits.now a.prefix a.v (cas_of a.cas.now) (sym c.has_code.ensures ∙ w.left)) c.else-has_code.branch
+    ∙ elim c.else-has_code.branch [
+      | else-has_code-via-then-has_code+else-v-eq-CC w ↦ value_taken country a.digits.now a.prefix a.v (cas_of a.cas.now) w.if-v-eq-CC.false
+      | else-has_code-via-else-has_code w ↦ value_not_default country a.digits.now a.prefix a.v (cas_of a.cas.now) (sym c.has_code.ensures ∙ w.if-has_code.false)
+    ]

@@ -10,13 +10,6 @@ use Rattle.formatting.proofs.Joining.{Joining, joining_none, joined, joined_long
 use borrow.Author.Rules.{rules}
 use Rattle.formatting.proofs.join_placed.Goals as goal
 
--- where the value at hand lies
-
-lies-here : (c : tie.After-value-to-send invariant-loop decreases-loop) →
-    let a = c.before.before.before.before.before.before.before.before.before.args in
-    Lies (sent_at a.source.now a.starts.now a.counts.now c.before.before.code_at.result) a.source.now c.value-to-send.result
-lies-here c = sent_lies c.before.before.before.before.before.before.before.before.before.requires.0 c.before.before.code_at.result c.value-to-send.ensures
-
 pub loop-most-init : goal.loop-most-init
 loop-most-init c = let a = c.args in
     (search rules, search rules, search rules, joining_none _ a.fas.now a.out.now)
@@ -26,16 +19,16 @@ returns-then-f-eq0 c = let a = c.args in
     joined c.loop-most.invariant.3 a.most (c.code_at-f.ensures.ends c.if-f-eq0.true) c.loop-most.invariant.1
 
 pub overflow_add-end : goal.overflow_add-end
-overflow_add-end c = let v = lies-here c in omega (arith, v.few, c.loop-most.invariant.1, c.requires.1)
+overflow_add-end c = let v = sent_lies c.requires.0 c.code_at-f.result c.value_to_send-value.ensures in omega (arith, v.few, c.loop-most.invariant.1, c.requires.1)
 
 pub returns-then-most-end : goal.returns-then-most-end
 returns-then-most-end c = let a = c.args in
-    let v = lies-here c in
+    let v = sent_lies c.requires.0 c.code_at-f.result c.value_to_send-value.ensures in
     (joined_long c.loop-most.invariant.3 a.most (c.code_at-f.ensures.goes c.if-f-eq0.false) _ v.count c.if-most-end.true _)
 
 pub put_value-requires : goal.put_value-requires
 put_value-requires c = let l = c.loop-most in
-    let v = lies-here c in
+    let v = sent_lies c.requires.0 c.code_at-f.result c.value_to_send-value.ensures in
     (record { long = c.requires.0.long; low = v.low; few = v.few }, search rules)
 
 pub loop-most-smaller : goal.loop-most-smaller
@@ -45,7 +38,7 @@ pub loop-most-preserved : goal.loop-most-preserved
 loop-most-preserved c = let l = c.loop-most in
     let r = c.code_at-f.ensures in
     let n = c.if-f-eq0.false in
-    let v = lies-here c in
+    let v = sent_lies c.requires.0 c.code_at-f.result c.value_to_send-value.ensures in
     let fits = c.if-most-end.false in
     let j = joining_more l.invariant.3 c.args.most (r.goes n) _ v.count _ (omega (arith, l.invariant.2, fits, c.requires.2)) (search rules) (c.put_value.ensures ∙ v.is) in
     (r.inside n, fits, search rules, j)

@@ -44,6 +44,6 @@ returns-in-16 c = let a = c.args in
 
 pub returns-in_default : goal.returns-in_default
 returns-in_default c = let a = c.args in
-    let r = c.in_default.rest in
+    let r = c.in_default.in_default-own.rest in
     let h : DELIMITER-B < a.f = omega (arith, c.requires.1, r.0.0.0.0.0.1, r.0.0.0.0.1, r.0.0.0.1, r.0.0.1, r.0.1, r.1) in
     lies_as (no_value _ _ a.served _ a.f h) (nothing_lies a.source.now)

@@ -1,6 +1,5 @@
 -- By the test.
 use Rattle.text.proofs.DigitTexts.{digit_low, digit_high}
-use borrow.Author.Rules.{rules}
 use Rattle.text.proofs.digit_text.Goals as goal
 
 pub returns-then-d-lt10 : goal.returns-then-d-lt10

@@ -1,10 +1,7 @@
 -- At i the digits before i are written (`Seam`); each block moves the seam behind itself.
-use Prim.Native.Nat.{◌-◌, ◌≤◌}
-use mathlib.Core.List.{map}
+use Prim.Native.Nat.{◌-◌}
 use native.Mathlib.Omega.{arith}
 use lib.ListN.{length}
-use Rattle.meaning.specs.Records.{digit_text}
-use Rattle.buffer.proofs.Moves.{Seam}
 use Rattle.text.proofs.DigitTexts.{texts_none, texts_all, block_digits, block_written}
 use borrow.Author.Rules.{rules}
 use Rattle.text.proofs.digits_to_text.Goals as goal

@@ -1,11 +1,5 @@
 -- At i the digits before i are written (`Seam`).
-use Prim.Native.Nat.{◌-◌}
-use mathlib.Core.List.{map}
-use lib.ListN.{length}
-use Rattle.meaning.specs.Records.{digit_text}
-use Rattle.buffer.proofs.Moves.{Seam}
 use Rattle.text.proofs.DigitTexts.{texts_none, next_digit, texts_more, texts_all}
-use borrow.Author.Rules.{rules}
 use Rattle.text.proofs.few_to_text.Goals as goal
 
 pub loop-i-init : goal.loop-i-init

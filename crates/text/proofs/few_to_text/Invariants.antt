@@ -4,8 +4,6 @@ use mathlib.Core.List.{map}
 use lib.ListN.{length}
 use Rattle.meaning.specs.Records.{digit_text}
 use Rattle.buffer.proofs.Moves.{Seam}
-use Rattle.text.proofs.DigitTexts.{texts_none, next_digit, texts_more, texts_all}
-use borrow.Author.Rules.{rules}
 use Rattle.text.proofs.few_to_text.Given as goal
 
 abbrev pub invariant-loop-i : goal.invariant-loop-i

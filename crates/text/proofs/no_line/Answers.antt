@@ -1,7 +1,6 @@
 -- A line of the word and the number.
 use Rattle.text.proofs.Lines.{named}
 use Rattle.text.proofs.LineTexts.{no_is}
-use borrow.Author.Rules.{rules}
 use Rattle.text.proofs.no_line.Goals as goal
 
 pub returns : goal.returns

@@ -5,7 +5,6 @@ use lib.ListN.{length}
 use Rattle.text.specs.Writes.{answer_in}
 use Rattle.text.proofs.Lines.{named, room_behind, text_behind}
 use Rattle.text.proofs.LineTexts.{refused_is, answered_is}
-use borrow.Author.Rules.{rules}
 use Rattle.text.proofs.number_line.Goals as goal
 
 pub returns-then-answer-ne-ACCEPTED : goal.returns-then-answer-ne-ACCEPTED

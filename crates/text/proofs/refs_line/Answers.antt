@@ -2,7 +2,6 @@
 use native.Mathlib.Omega.{arith}
 use Rattle.text.proofs.Lines.{named}
 use Rattle.text.proofs.LineTexts.{counted_is, counted_few, not_counted_is}
-use borrow.Author.Rules.{rules}
 use Rattle.text.proofs.refs_line.Goals as goal
 
 pub write_counted-requires : goal.write_counted-requires

@@ -1,6 +1,5 @@
 -- Below zero the number is turned round.
 use Rattle.text.proofs.Losses.{turned, kept}
-use borrow.Author.Rules.{rules}
 use Rattle.text.proofs.size.Goals as goal
 
 pub overflow_sub-result : goal.overflow_sub-result

@@ -3,7 +3,6 @@ use mathlib.Core.List.{[], ◌∷◌}
 use native.Mathlib.Omega.{arith}
 use Rattle.text.proofs.Lines.{over, named, text_behind}
 use Rattle.text.proofs.Losses.{loss_is}
-use borrow.Author.Rules.{rules}
 use Rattle.text.proofs.total_line.Goals as goal
 
 pub returns : goal.returns

@@ -3,7 +3,6 @@ use Prim.Native.Nat.{◌+◌}
 use lib.ListN.{length}
 use native.Mathlib.Omega.{arith}
 use Rattle.text.proofs.Lines.{decimal_short, number_short, named, room_behind, text_behind}
-use borrow.Author.Rules.{rules}
 use Rattle.text.proofs.write_class_and_prefix.Goals as goal
 
 pub write_number-at-requires : goal.write_number-at-requires

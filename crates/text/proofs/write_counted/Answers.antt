@@ -1,7 +1,6 @@
 -- The number stands behind the word.
 use native.Mathlib.Omega.{arith}
 use Rattle.text.proofs.Lines.{decimal_short, over, text_behind}
-use borrow.Author.Rules.{rules}
 use Rattle.text.proofs.write_counted.Goals as goal
 
 pub write_number-requires : goal.write_number-requires

@@ -2,7 +2,6 @@
 use native.Mathlib.Omega.{arith}
 use lib.ListN.{length-set}
 use Rattle.text.proofs.DigitTexts.{no_digits, some_digits}
-use borrow.Author.Rules.{rules}
 use Rattle.text.proofs.write_digits.Goals as goal
 
 pub bounds-out-1 : goal.bounds-out-1

@@ -2,7 +2,6 @@
 use native.Mathlib.Omega.{arith}
 use lib.ListN.{length-set}
 use Rattle.text.proofs.LineTexts.{head_stored}
-use borrow.Author.Rules.{rules}
 use Rattle.text.proofs.write_head.Goals as goal
 
 pub bounds-out-1 : goal.bounds-out-1

@@ -3,7 +3,6 @@ use native.Mathlib.Omega.{arith}
 use lib.ListN.{length-set}
 use Rattle.text.proofs.Lines.{decimal_short, named}
 use Rattle.text.proofs.LineTexts.{length_wild, length_stated}
-use borrow.Author.Rules.{rules}
 use Rattle.text.proofs.write_length.Goals as goal
 
 pub bounds-out-1 : goal.bounds-out-1

@@ -1,7 +1,6 @@
 -- The byte stands behind the number.
 use native.Mathlib.Omega.{arith}
 use Rattle.text.proofs.Lines.{kept_long, byte_behind}
-use borrow.Author.Rules.{rules}
 use Rattle.text.proofs.write_number.Goals as goal
 
 pub bounds-out-end : goal.bounds-out-end

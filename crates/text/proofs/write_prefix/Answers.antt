@@ -1,7 +1,6 @@
 -- A prefix's digits, by document 01's name for their text.
 use Rattle.text.proofs.Lines.{named}
 use Rattle.text.proofs.DigitTexts.{prefix_is}
-use borrow.Author.Rules.{rules}
 use Rattle.text.proofs.write_prefix.Goals as goal
 
 pub returns : goal.returns

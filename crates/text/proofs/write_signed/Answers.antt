@@ -3,7 +3,6 @@ use mathlib.Core.List.{[], ◌∷◌}
 use native.Mathlib.Omega.{arith}
 use Rattle.text.proofs.Lines.{over, named, text_behind}
 use Rattle.text.proofs.Losses.{size_short, below_is, above_is}
-use borrow.Author.Rules.{rules}
 use Rattle.text.proofs.write_signed.Goals as goal
 
 pub write_number-requires : goal.write_number-requires

@@ -1,0 +1,11 @@
+-- A rule has the filter, and names another set.
+use borrow.Author.Rules.{rules}
+use Rattle.rule_changes.proofs.RuleChanges.{held_below, renamed}
+use Rattle.rule_changes.proofs.rename_given.Goals as goal
+
+pub rename_rule-requires : goal.rename_rule-requires
+rename_rule-requires c = (c.requires.0.sound, held_below c.args.plan.now c.args.body.now c.requires.0 _ c.place_of-place.ensures c.requires.2)
+
+pub returns : goal.returns
+returns c = renamed c.args.plan.now c.args.body.now c.requires.0 _ c.place_of-place.ensures c.requires.2
+    c.set_number.ensures c.rename_rule.ensures
