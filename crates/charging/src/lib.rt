@@ -1,4 +1,6 @@
 // Charging a call record: its range, what it is due by the plan and the price list, and its entry in the ledger.
+#![tactic(auto)]
+
 ghost use Rattle.std.specs.Prelude.{◌≡◌, true, ◌*◌, ◌≤◌, length};
 ghost use Rattle.std.proofs.Math.Option.{some};
 ghost use Rattle.meaning.specs.Sizes.{CALL-BYTES};

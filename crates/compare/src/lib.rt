@@ -1,4 +1,6 @@
 // C-20: two plans side by side, for any two memories and any lent buffer.
+#![tactic(auto)]
+
 ghost use Rattle.std.specs.Prelude.{◌≡◌, ◌+◌, ◌≤◌, length, take};
 ghost use Rattle.std.proofs.Math.Option.{some};
 ghost use Rattle.meaning.specs.Sizes.{FILTER-BYTES, DIFFERENCE-BYTES};

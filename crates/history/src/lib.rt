@@ -1,4 +1,6 @@
 // A list of calls on one plan memory, run: demand 3 speaks of every such list.
+#![tactic(auto)]
+
 ghost use Rattle.std.specs.Prelude.{◌≡◌, ◌≤◌, drop};
 ghost use Rattle.history.specs.Replays.{Replays};
 ghost use Rattle.history.specs.Parts.{begins_whole};

@@ -1,4 +1,6 @@
 // Answering a number over a plan: the choice of a rule, conditioning, the service actions and formatting, with every field of the answer.
+#![tactic(auto)]
+
 ghost use Rattle.std.specs.Prelude.{◌≡◌, true, ◌≤◌, length, get_or};
 ghost use Rattle.meaning.specs.Sizes.{CLASS-AT, NUMBER-BYTES};
 ghost use Rattle.meaning.specs.Settings.{number_of, number_in_range};

@@ -1,5 +1,7 @@
 // Opening a plan, and provisioning it: sets and rules added, changed and removed. There is one way in for all the calls, by kind; the public calls, for any plan bytes and any body
 // bytes, are the kinds by name.
+#![tactic(auto)]
+
 ghost use Rattle.std.specs.Prelude.{◌≡◌, length};
 ghost use Rattle.std.proofs.Math.Option.{some};
 ghost use Rattle.meaning.specs.Refusals.{first_of};

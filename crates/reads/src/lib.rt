@@ -1,5 +1,7 @@
 // The four read calls: the conditioned number, the stretch of a value, a set's content, and the count of rules naming a set; for any plan
 // bytes, any arguments and any lent buffer.
+#![tactic(auto)]
+
 ghost use Rattle.std.specs.Prelude.{◌≡◌, true, ◌∷◌, ◌+◌, ◌≤◌, ◌/◌, ◌%◌, length, get_or};
 ghost use Rattle.std.proofs.Math.Option.{some};
 ghost use Rattle.meaning.specs.Sizes.{CONTENT-BYTES, SET-BODY, DIGIT-ROOM};

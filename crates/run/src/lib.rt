@@ -1,4 +1,6 @@
 // Opening and provisioning in a run of the program, which holds its plan alone and knows whether it is sound: nothing is examined.
+#![tactic(auto)]
+
 ghost use Rattle.std.specs.Prelude.{◌≡◌, true, ◌≤◌, length};
 ghost use Rattle.meaning.specs.Sizes.{OPENING-BYTES, RUN-BYTES};
 ghost use Rattle.meaning.specs.Calls.{OPEN-PLAN, is_call, body_length, call_of};

@@ -1,0 +1,15 @@
+-- At most 32 digits are copied.
+use native.Mathlib.Omega.{arith}
+use lib.ListN.{length-take}
+use Rattle.number.proofs.Answering.{holds_few, gives_copied}
+use borrow.Author.Rules.{rules}
+use Rattle.number.proofs.answer_known.Goals as goal
+
+pub slice_bounds-copy-end : goal.slice_bounds-copy-end
+slice_bounds-copy-end c = omega (arith, holds_few c.answer_held-a.ensures)
+
+pub copy-requires : goal.copy-requires
+copy-requires c = rw length-take (omega (arith, holds_few c.answer_held-a.ensures, c.requires.room))
+
+pub returns : goal.returns
+returns c = gives_copied _ _ c.args.out.now _ _ c.answer_held-a.ensures c.copy.ensures
