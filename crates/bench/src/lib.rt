@@ -1,5 +1,7 @@
 // The answer and the choice over a plan that is known to be sound, and a call record over what is known to be in range, exported for the benchmark alone: a caller
 // owes what each requires.
+#![tactic(auto)]
+
 ghost use Rattle.std.specs.Prelude.{◌≡◌, true, ◌≤◌, length};
 ghost use Rattle.meaning.specs.Settings.{number_of};
 ghost use Rattle.meaning.specs.Rules.{chosen_place};

@@ -1,4 +1,6 @@
 // The lines of numbers and of C-11's records: a number, alone or in a call record, a row of the price list, the losses.
+#![tactic(auto)]
+
 ghost use Rattle.std.specs.Prelude.{◌≡◌, true, ◌≤◌, ◌<◌, length};
 ghost use Rattle.meaning.specs.Sizes.{PRICE-BODY, DISTRICTS};
 ghost use Rattle.meaning.specs.Ledger.{ledger_of, totals_at, ledger_in_range};

@@ -1,0 +1,7 @@
+-- The row, and its number.
+use Rattle.billing.proofs.ChargeLines.{price_written}
+use borrow.Author.Rules.{rules}
+use Rattle.billing.proofs.price_record.Goals as goal
+
+pub returns : goal.returns
+returns c = price_written c.requires.0 c.add_known-answer.ensures c.accepted_line.ensures
