@@ -1,7 +1,7 @@
 -- What is read and written at the system, as far as it can be stated: by the numbers that its calls answered. Which bytes they moved no contract can say.
 use Rattle.std.specs.Prelude.{ℕ, ◌+◌, ◌-◌, ◌≤◌, ◌<◌, ◌≡◌, Bool, true, false, List, ℤ, pos, negsuc, length, take, eqb}
-use Rattle.libc.specs.Io.{Moved}
 use Rattle.io.specs.Counts.{clamp_len}
+use Rattle.descriptors.specs.Io.{Moved}
 use Rattle.descriptors.specs.declared.Source.{Source}
 use Rattle.descriptors.specs.declared.Sink.{Sink}
 use Rattle.descriptors.specs.declared.AtHand.{AtHand}

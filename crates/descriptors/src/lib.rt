@@ -1,8 +1,12 @@
 // Where the program's loop meets the system: `fill` reads behind what is left of the input, `write` writes the front of the output, and no other function of the loop
 // calls it. What they moved is counted in a source and a sink, whose fields are private: another crate has them from `new`, `fill` and `write` alone. They can be
 // copied, so that each answer is handed on is read where the two are called.
+#![tactic(auto)]
+
 ghost use Rattle.std.specs.Prelude.{◌≡◌, ◌+◌, ◌≤◌, length};
 ghost use Rattle.descriptors.specs.Moves.{MOST, new_source, at_hand, Fillable, FillPromise, new_sink, sent, Writable, WritePromise};
+
+use std::io::{Read, Write};
 
 // A descriptor that is read: how many bytes it gave, whether it has come to its end, and whether a read failed.
 #[derive(Clone, Copy)]
@@ -102,12 +106,15 @@ fn at_hand(source: Source, have: usize, got: isize, part: &[u8]) -> AtHand
     }
 }
 
-// One read behind what is left of the input.
-pub fn fill(source: Source, have: usize, input: &mut [u8]) -> AtHand
+// One read behind what is left of the input. A reader that fails answers below 0, as the system does.
+pub fn fill<R: Read>(reader: &mut R, source: Source, have: usize, input: &mut [u8]) -> AtHand
     requires { Fillable source have input.old }
     ensures { FillPromise source have input.old input.new result }
 {
-    let got = libc::read(source.fd, &mut input[have..]);
+    let got = match reader.read(&mut input[have..]) {
+        Ok(n) => n as isize,
+        Err(_) => -1,
+    };
     at_hand(source, have, got, &input[have..])
 }
 
@@ -127,10 +134,10 @@ fn after_write(sink: Sink, n: usize, done: bool) -> Sink
 }
 
 // Writes a text: the front of the output, so many bytes of it and nothing else.
-pub fn write(sink: Sink, text: &[u8], n: usize, output: &[u8]) -> Sink
+pub fn write<W: Write>(writer: &mut W, sink: Sink, text: &[u8], n: usize, output: &[u8]) -> Sink
     requires { Writable sink n text.now output.now }
     ensures { WritePromise sink n result }
 {
-    let done = io::write_all(sink.fd, text);
+    let done = writer.write_all(text).is_ok();
     after_write(sink, n, done)
 }

@@ -1,5 +1,7 @@
 // Files of house records: what a source gives is taken in turns, and the lines are handed to a sink. This crate calls no function of the system: what is read and
-// written passes through `descriptors` alone.
+// written passes through `descriptors` alone, to which it hands the reader and the writer on.
+#![tactic(auto)]
+
 ghost use Rattle.std.specs.Prelude.{◌≡◌, false, ◌+◌, ◌-◌, ◌≤◌, length, take, drop};
 ghost use Rattle.meaning.specs.Sizes.{LONGEST-RECORD, PRICES-BYTES, RUN-BYTES};
 ghost use Rattle.meaning.specs.Basics.{written_over};
@@ -14,6 +16,7 @@ use meaning::Totals;
 use meaning::sizes::LEDGER_NUMBERS;
 use pump::Pumped;
 use record::Run;
+use std::io::{Read, Write};
 
 // Where a copy stands between two turns: the state of the run, the source and the sink, and the bytes of the input that are at hand, from `at` to `end`: those
 // before `at` are taken.
@@ -79,7 +82,7 @@ fn settle(at: usize, end: usize, input: &mut [u8]) -> usize
 }
 
 // The input at hand: what is left, and what one read gives behind it. No read is made where the input has ended or a whole record is left.
-fn supply(source: Source, left: usize, input: &mut [u8]) -> AtHand
+fn supply<R: Read>(reader: &mut R, source: Source, left: usize, input: &mut [u8]) -> AtHand
     requires { Suppliable source left input.old }
     ensures { SupplyPromise source left input.old input.new result }
 {
@@ -95,16 +98,16 @@ fn supply(source: Source, left: usize, input: &mut [u8]) -> AtHand
             source: source,
         };
     }
-    descriptors::fill(source, left, input)
+    descriptors::fill(reader, source, left, input)
 }
 
 // What is left moves to the front, and is supplied.
-fn gather(rest: Rest, input: &mut [u8]) -> AtHand
+fn gather<R: Read>(reader: &mut R, rest: Rest, input: &mut [u8]) -> AtHand
     requires { Gatherable rest (length input.old) }
     ensures { GatherPromise rest input.old input.new result }
 {
     let left = settle(rest.at, rest.end, input);
-    supply(rest.source, left, input)
+    supply(reader, rest.source, left, input)
 }
 
 // A read failed: what was left is at hand, and nothing of it is taken.
@@ -120,12 +123,12 @@ fn unread(rest: Rest, h: AtHand) -> Rest
 }
 
 // Hands out what the steps wrote: the front of the output.
-fn hand(sink: Sink, p: Pumped, output: &[u8]) -> Sink
+fn hand<W: Write>(writer: &mut W, sink: Sink, p: Pumped, output: &[u8]) -> Sink
     requires { (p.written ≤ length output.now) × (sink.failed ≡ false) × (sink.written + p.written ≤ MOST) }
     ensures { WritePromise sink p.written result }
 {
     let n = p.written;
-    descriptors::write(sink, &output[0..n], n, output)
+    descriptors::write(writer, sink, &output[0..n], n, output)
 }
 
 // How a turn ended, by what was at hand, what the steps over it did, and what became of their text.
@@ -157,7 +160,8 @@ fn conclude(h: AtHand, p: Pumped, sink: Sink) -> Turned
 }
 
 // Steps over the input at hand, and a write of what they wrote; nothing where the read failed.
-fn advance(
+fn advance<W: Write>(
+    writer: &mut W,
     plan: &mut [u8],
     prices: &mut [u8],
     districts: &mut [i64; LEDGER_NUMBERS],
@@ -183,12 +187,14 @@ fn advance(
         &input[0..end],
         output,
     );
-    let sink = hand(rest.sink, p, output);
+    let sink = hand(writer, rest.sink, p, output);
     conclude(h, p, sink)
 }
 
 // A read behind what is left, or none, and what is done with the input at hand.
-fn turn(
+fn turn<R: Read, W: Write>(
+    reader: &mut R,
+    writer: &mut W,
     plan: &mut [u8],
     prices: &mut [u8],
     districts: &mut [i64; LEDGER_NUMBERS],
@@ -199,14 +205,17 @@ fn turn(
     requires { Turnable (lent plan.old prices.old districts.old rest.run.whole) rest (length input.old) (length output.old) }
     ensures { TurnPromise (lent plan.old prices.old districts.old rest.run.whole) rest input.old output.old (lent plan.new prices.new districts.new (rest_in result).run.whole) input.new output.new result }
 {
-    let h = gather(rest, input);
-    advance(plan, prices, districts, rest, h, input, output)
+    let h = gather(reader, rest, input);
+    advance(writer, plan, prices, districts, rest, h, input, output)
 }
 
 // ALL TURNS
 
-// Writes to one descriptor the lines of the house records that another gives, to its end or until reading has ended.
-pub fn copy(
+// Writes to one descriptor the lines of the house records that another gives, to its end or until reading has ended. The reader is the one of `from`, and the
+// writer that of `to`.
+pub fn copy<R: Read, W: Write>(
+    reader: &mut R,
+    writer: &mut W,
     from: i32,
     to: i32,
     plan: &mut [u8],
@@ -229,7 +238,7 @@ pub fn copy(
     };
     let mut turns = TURNS;
     while turns > 0 {
-        let t = turn(plan, prices, districts, rest, input, output);
+        let t = turn(reader, writer, plan, prices, districts, rest, input, output);
         let Turned::Goes(next) = t else {
             return t;
         };
