@@ -87,7 +87,7 @@ unfolding record_house
 record_in h k body i = go (is_call k) (eqb k CALL) (eqb k PRICE)
   where
     kept : (s : Option Plan) → HouseIn (with_plan s h)
-    kept s = record { rows_pass = i.rows_in; size = i.size; ledger_in = i.ledger_in }
+    kept s = record { rows_pass = i.rows_pass; size = i.size; ledger_in = i.ledger_in }
 
     go : (a b c : Bool)
         → HouseIn (if a then with_plan (after lacks_program_room h.plan (call_of k body)) h else
@@ -95,9 +95,9 @@ record_in h k body i = go (is_call k) (eqb k CALL) (eqb k PRICE)
         if c then house_with h.plan (rows_or h.rows (rows_after (some h.rows) body)) h.ledger else h)
     go true b c = kept (after lacks_program_room h.plan (call_of k body))
     go false true c =
-        let l = ledger_after_in_range h.plan h.rows i.rows_in h.ledger DIGIT-ROOM body i.ledger_in i.size in
-        record { rows_pass = i.rows_in; size = l.1; ledger_in = l.0 }
-    go false false true = record { rows_pass = rows_pass h.rows body i.rows_in; size = i.size; ledger_in = i.ledger_in }
+        let l = ledger_after_in_range h.plan h.rows i.rows_pass h.ledger DIGIT-ROOM body i.ledger_in i.size in
+        record { rows_pass = i.rows_pass; size = l.1; ledger_in = l.0 }
+    go false false true = record { rows_pass = rows_pass h.rows body i.rows_pass; size = i.size; ledger_in = i.ledger_in }
     go false false false = i
 
 abbrev pub Leaves : (House → Type 0) → Turn → Type 0
@@ -125,7 +125,7 @@ next_in_house {m} {after} {input} {output} {written} {lines} {ended} i p =
     no_smaller m.plan after.plan (state_of after.plan) (state_holds after.plan) (ap (λ (x : Lent). x.plan) (left_is p)) in
     record {
       plan_in = record { room = omega (arith, more, i.plan_in.room); state = p.opened_is };
-      prices_in = ap prices_in_range own ∙ is_true (prices_in_range (prices_image rows)) (image_in_range rows (passes_parts rows (true_is (prices_pass rows) now.rows_in)));
+      prices_in = ap prices_in_range own ∙ is_true (prices_in_range (prices_image rows)) (image_in_range rows (passes_parts rows (true_is (prices_pass rows) now.rows_pass)));
       size = now.size;
       ledger_in = now.ledger_in;
     }

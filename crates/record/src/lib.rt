@@ -1,4 +1,6 @@
 // The house records of an input that comes in parts: a step takes a record, or a line of a listing, and writes its line.
+#![tactic(auto)]
+
 ghost use Rattle.std.specs.Prelude.{◌≡◌, ◌≢◌, true, false, [], ◌≤◌, ◌<◌, length, get_or, eqb};
 ghost use Rattle.meaning.specs.Sizes.{SET-NUMBER-BYTES};
 ghost use Rattle.meaning.specs.Calls.{LIST, CALL, is_kind, is_call, body_length};
