@@ -165,7 +165,7 @@ module _ (m : Lent) {opened : Bool} (i : InHouse m opened) where
 
   keeps_house : (h : House) → KeepsPlan h.plan → HouseIn h → KeepsHouse h
   keeps_house h k j =
-      let rows : rows_in (prices_image h.rows) ≡ h.rows = image_rows h.rows (passes_parts h.rows (true_is (prices_pass h.rows) j.rows_in)) in
+      let rows : rows_in (prices_image h.rows) ≡ h.rows = image_rows h.rows (passes_parts h.rows (true_is (prices_pass h.rows) j.rows_pass)) in
       (ap₂ (λ (s : Option Plan) (rs : List PriceRow). house_with s rs h.ledger) k.0 rows, k.1)
 
   kept : KeepsPlan (state_of m.plan)

@@ -1,4 +1,6 @@
 // Steps over the input at hand, one behind the other, until none can be taken.
+#![tactic(auto)]
+
 ghost use Rattle.std.specs.Prelude.{◌≡◌};
 ghost use Rattle.blocks.specs.Places.{mask_table};
 ghost use Rattle.record.specs.Promises.{lent, InHouse};

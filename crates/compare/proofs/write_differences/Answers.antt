@@ -31,7 +31,7 @@ put_difference-end-requires c = let a = c.args in
 
 pub overflow_add-end : goal.overflow_add-end
 overflow_add-end c = let fits = end_fits c.args.left.now c.args.right.now c.args.out.now c.loop-i.i c.loop-i.j c.loop-i.end _ _ c.loop-i.invariant c.kind_at-kind.ensures c.if-kind-eq-ENDED.false _ _ c.put_difference-end.ensures in
-    omega (arith, fits, c.loop-i.invariant.long, c.well-formed.0)
+    omega (arith, fits, c.loop-i.invariant.long, c.well_formed.0)
 
 pub overflow_add-i : goal.overflow_add-i
 overflow_add-i c = let a = c.args in
