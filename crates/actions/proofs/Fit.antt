@@ -7,7 +7,8 @@ use mathlib.Core.Bool.{Bool, true, false, not, or-true, or-false}
 use mathlib.Core.List.{List}
 use lib.Dec.{leb, ltb, eqb}
 use borrow.Author.Tests.{eqb-true, eqb-false, eq-eqb, ne_eqb}
-use Rattle.meaning.specs.Basics.{if◌then◌else◌, any, count}
+use Rattle.meaning.specs.Basics.{any, count}
+use Rattle.std.specs.Prelude.{if◌then◌else◌}
 use Rattle.meaning.specs.Actions.{LAST-COUNTED, FPFX, CA, is_fpfx}
 use Rattle.meaning.specs.Groups.{fixed_of, fpfx_meets_prefix, sum_fits}
 use Rattle.meaning.proofs.Tests.{none_counted}

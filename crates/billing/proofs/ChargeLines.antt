@@ -10,7 +10,8 @@ use lib.ListN.{length, take}
 use lib.Seq.{take_all}
 use borrow.Author.Tests.{le-ltb}
 use Rattle.meaning.specs.Sizes.{NUMBER-BYTES, CALL-BYTES, PRICE-BODY, DIGIT-ROOM}
-use Rattle.meaning.specs.Basics.{if◌then◌else◌, is_zero}
+use Rattle.meaning.specs.Basics.{is_zero}
+use Rattle.std.specs.Prelude.{if◌then◌else◌}
 use Rattle.meaning.specs.Refusals.{PLAN, RANGE}
 use Rattle.meaning.specs.Settings.{number_of, number_in_range}
 use Rattle.meaning.specs.Plan.{Plan}

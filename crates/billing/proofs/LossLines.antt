@@ -9,7 +9,7 @@ use lib.IntN.{ℤ}
 use mir.Syntax.{w64}
 use mir.ValLaws.{to_z-of_z}
 use Rattle.meaning.specs.Sizes.{DISTRICTS}
-use Rattle.meaning.specs.Basics.{if◌then◌else◌}
+use Rattle.std.specs.Prelude.{if◌then◌else◌}
 use Rattle.meaning.specs.Ledger.{Ledger, ledger_of, totals_at, ledger_in_range, loss_of, cents, loss_in, has_records}
 use Rattle.meaning.specs.Records.{decimal, signed_decimal, line, loss_line, total_line}
 use Rattle.meaning.specs.declared.Totals.{Totals}

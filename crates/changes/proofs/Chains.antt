@@ -9,7 +9,8 @@ use native.Mathlib.Omega.{arith}
 use lib.ListN.{length, drop, length-append, length-drop}
 use lib.Dec.{T, ltb, nltb→le}
 use borrow.Author.Tests.{eqb-true}
-use Rattle.meaning.specs.Basics.{if◌then◌else◌, is_zero}
+use Rattle.meaning.specs.Basics.{is_zero}
+use Rattle.std.specs.Prelude.{if◌then◌else◌}
 use Rattle.meaning.specs.Refusals.{Line, first_of}
 use Rattle.meaning.specs.Settings.{Rooms, rooms_of, bytes_needed}
 use Rattle.meaning.specs.Plan.{Plan, rooms_in, fresh}

@@ -1,7 +1,7 @@
 -- What opening and the six provisioning calls promise, one record for all seven, and chains of such calls on one memory.
 use Rattle.std.specs.Prelude.{ℕ, ◌≡◌, true, false, List, [], ◌∷◌, ◌++◌, length, drop}
 use Rattle.std.proofs.Math.Option.{Option, none, some}
-use Rattle.meaning.specs.Basics.{if◌then◌else◌}
+use Rattle.std.specs.Prelude.{if◌then◌else◌}
 use Rattle.meaning.specs.Settings.{bytes_needed}
 use Rattle.meaning.specs.Plan.{Plan, rooms_in}
 use Rattle.meaning.specs.Refusals.{KIND}

@@ -11,7 +11,8 @@ use lib.ListN.{length, take, length-take}
 use lib.Seq.{take_all, length-take-le}
 use borrow.Author.Tests.{le-ltb}
 use Rattle.meaning.specs.Sizes.{DISTRICT-AT, BILLED-AT, CALL-BYTES, DIGIT-ROOM}
-use Rattle.meaning.specs.Basics.{if◌then◌else◌, all_of, word, quad}
+use Rattle.meaning.specs.Basics.{all_of, word, quad}
+use Rattle.std.specs.Prelude.{if◌then◌else◌}
 use Rattle.meaning.specs.Refusals.{CUT, PLAN, ROOM, RANGE, NO-PRICE, LEDGER-FULL}
 use Rattle.meaning.specs.Plan.{Plan}
 use Rattle.meaning.specs.Prices.{PriceRow}

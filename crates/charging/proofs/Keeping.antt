@@ -9,7 +9,8 @@ use lib.ListN.{length, take}
 use lib.Dec.{T, ltb}
 use borrow.Author.Tests.{eqb-true, ne_eqb, not-true}
 use Rattle.meaning.specs.Sizes.{CALL-BYTES, DIGIT-ROOM, LEDGER-NUMBERS, DISTRICTS}
-use Rattle.meaning.specs.Basics.{if◌then◌else◌, is_zero, is_some, all}
+use Rattle.meaning.specs.Basics.{is_zero, is_some, all}
+use Rattle.std.specs.Prelude.{if◌then◌else◌}
 use Rattle.meaning.specs.Refusals.{Line, first_of, CUT, ROOM, RANGE, NO-PRICE, LEDGER-FULL}
 use Rattle.meaning.specs.Plan.{Plan}
 use Rattle.meaning.specs.Prices.{PriceRow, PRICE-LIMIT, price_for, prices_pass, row_passes, list_tests}

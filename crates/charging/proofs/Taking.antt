@@ -10,7 +10,8 @@ use lib.ListN.{length, take}
 use lib.Dec.{leb}
 use borrow.Author.Tests.{lt-ltb, le-ltb, eq-eqb, ne_eqb}
 use Rattle.meaning.specs.Sizes.{CALL-BYTES, DIGIT-ROOM}
-use Rattle.meaning.specs.Basics.{if◌then◌else◌, is_empty}
+use Rattle.meaning.specs.Basics.{is_empty}
+use Rattle.std.specs.Prelude.{if◌then◌else◌}
 use Rattle.meaning.specs.Refusals.{CUT, PLAN, ROOM, RANGE, SHORT, LONG, NO-PRICE, LEDGER-FULL, first_of}
 use Rattle.meaning.specs.Settings.{Settings, Number}
 use Rattle.meaning.specs.Rules.{Rule, filter_in, chosen}

@@ -1,7 +1,7 @@
 -- What the functions on the way to a call record's entry give.
 use Rattle.std.specs.Prelude.{ℕ, ◌*◌, ◌≤◌, ◌≡◌, Bool, true, false}
 use Rattle.std.proofs.Math.Option.{Option, none, some}
-use Rattle.meaning.specs.Basics.{if◌then◌else◌}
+use Rattle.std.specs.Prelude.{if◌then◌else◌}
 use Rattle.meaning.specs.Refusals.{NO-PRICE, LEDGER-FULL}
 use Rattle.meaning.specs.Ledger.{UNIT-LIMIT, UNITS, Ledger, is_full, Entry, entered}
 use Rattle.meaning.specs.Charges.{CallRecord}

@@ -8,7 +8,8 @@ use native.Mathlib.Omega.{arith}
 use lib.ListN.{length, take, get_elem?, length-map}
 use lib.Dec.{ltb}
 use Rattle.meaning.specs.Sizes.{DIFFERENCE-BYTES, NUMBER-BYTES}
-use Rattle.meaning.specs.Basics.{if◌then◌else◌, written_over, padded}
+use Rattle.meaning.specs.Basics.{written_over, padded}
+use Rattle.std.specs.Prelude.{if◌then◌else◌}
 use Rattle.meaning.specs.Refusals.{ROOM}
 use Rattle.meaning.specs.Settings.{number_of}
 use Rattle.meaning.specs.Filters.{Filter}

@@ -10,7 +10,8 @@ use lib.ListN.{length, length-map}
 use lib.Dec.{T, ltb}
 use borrow.Author.Tests.{lt-ltb, le-ltb, ltb-true}
 use Rattle.meaning.specs.Sizes.{DIFFERENCE-BYTES}
-use Rattle.meaning.specs.Basics.{if◌then◌else◌, all, written_over}
+use Rattle.meaning.specs.Basics.{all, written_over}
+use Rattle.std.specs.Prelude.{if◌then◌else◌}
 use Rattle.meaning.specs.Refusals.{PLAN, ROOM}
 use Rattle.meaning.specs.Rules.{Rule}
 use Rattle.meaning.specs.Plan.{Plan, code_passes, codes_pass}

@@ -11,7 +11,8 @@ use lib.Dec.{eqb}
 use borrow.Author.Tests.{eq-eqb, ne_eqb, eqb-true}
 use borrow.Rule.Slice.PartMut.{put_mid, mid_of}
 use Rattle.meaning.specs.Sizes.{FILTER-BYTES, DIFFERENCE-FILTER-AT, LEFT-SET-AT, RIGHT-SET-AT, DIFFERENCE-BYTES}
-use Rattle.meaning.specs.Basics.{if◌then◌else◌, written_over, word_bytes}
+use Rattle.meaning.specs.Basics.{written_over, word_bytes}
+use Rattle.std.specs.Prelude.{if◌then◌else◌}
 use Rattle.meaning.specs.Rules.{Rule}
 use Rattle.meaning.specs.Plan.{code_passes, codes_pass}
 use Rattle.meaning.specs.History.{no_rule}

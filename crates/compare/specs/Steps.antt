@@ -1,7 +1,8 @@
 -- The way through the rules of two plans: what stands at a place of each, how far that goes on the left and on the right, and its entry.
 use Prim.Native.Nat.{ℕ, ◌≤◌, Ordering}
 use Rattle.std.specs.Prelude.{◌≡◌, Bool, true, false, List, [], ◌∷◌, map, length, drop, get_or, eqb}
-use Rattle.meaning.specs.Basics.{if◌then◌else◌, written_over}
+use Rattle.meaning.specs.Basics.{written_over}
+use Rattle.std.specs.Prelude.{if◌then◌else◌}
 use Rattle.meaning.specs.Filters.{compare_filters}
 use Rattle.meaning.specs.Rules.{Rule, filter_in}
 use Rattle.meaning.specs.Plan.{Plan, held}

@@ -9,7 +9,7 @@ use lib.ListN.{length, get_or, replicate, get_or-eq_default}
 use lib.Seq.{get_or-set_same, get_or-set_other}
 use lib.Dec.{T, eqb, eqb→eq}
 use borrow.Author.Tests.{eqb-true, eqb-false, eq-eqb, ne_eqb}
-use Rattle.meaning.specs.Basics.{if◌then◌else◌}
+use Rattle.std.specs.Prelude.{if◌then◌else◌}
 use Rattle.meaning.specs.Actions.{CCDEF, CA, value_of}
 use Rattle.meaning.specs.Conditioning.{width, Stretch, stretch_from, stretch_of}
 use Rattle.meaning.proofs.Tests.{all_below, at_below}

@@ -9,7 +9,8 @@ use mathlib.Core.List.{List, ◌∷◌}
 use lib.ListN.{length, take, drop}
 use lib.Dec.{eqb, ltb}
 use borrow.Author.Tests.{ltb-true, lt-ltb, eqb-true, eq-eqb, ne_eqb}
-use Rattle.meaning.specs.Basics.{if◌then◌else◌, is_zero}
+use Rattle.meaning.specs.Basics.{is_zero}
+use Rattle.std.specs.Prelude.{if◌then◌else◌}
 use Rattle.meaning.specs.Filters.{Filter}
 use Rattle.meaning.specs.Actions.{CCDEF, CA, is_x, value_of, ActionSet}
 use Rattle.meaning.specs.Groups.{fixed_of}

@@ -1,6 +1,6 @@
 -- The stretch of a value over a prefix's length and a set's CAs, and a span that gives it.
 use Rattle.std.specs.Prelude.{ℕ, ◌+◌, ◌≤◌, ◌≡◌, List}
-use Rattle.meaning.specs.Basics.{if◌then◌else◌}
+use Rattle.std.specs.Prelude.{if◌then◌else◌}
 use Rattle.meaning.specs.Actions.{CA}
 use Rattle.meaning.specs.Conditioning.{short, Stretch, empty_stretch, stretch_of}
 use Rattle.meaning.specs.Answers.{span_of}

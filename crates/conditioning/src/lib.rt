@@ -2,7 +2,7 @@
 #![tactic(auto)]
 
 ghost use Rattle.std.specs.Prelude.{◌≡◌, false, ◌<◌, length};
-ghost use Rattle.meaning.specs.Basics.{if◌then◌else◌};
+ghost use Rattle.std.specs.Prelude.{if◌then◌else◌};
 ghost use Rattle.meaning.specs.Actions.{cas_of, is_x};
 ghost use Rattle.meaning.specs.Groups.{fixed_of};
 ghost use Rattle.meaning.specs.Conditioning.{width, meets_too_few, short, takes_value, stretch_of, digits_at};

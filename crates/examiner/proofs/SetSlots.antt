@@ -10,7 +10,8 @@ use lib.Seq.{drop-cons, drop-drop, take_at, drop_at, length-take-le, get_or-take
 use lib.Dec.{T, eqb, eqb→eq, lit<, lit≤}
 use borrow.Author.Tests.{eq-eqb, ne_eqb}
 use Rattle.meaning.specs.Sizes.{CONTENT-BYTES, CONTENT-AT, COUNT-AT, SET-WIDTH}
-use Rattle.meaning.specs.Basics.{if◌then◌else◌, all, all_of, is_zero, part, word_bytes}
+use Rattle.meaning.specs.Basics.{all, all_of, is_zero, part, word_bytes}
+use Rattle.std.specs.Prelude.{if◌then◌else◌}
 use Rattle.meaning.specs.Actions.{actions_of, content_in_range}
 use Rattle.meaning.specs.Groups.{groups_hold}
 use Rattle.meaning.specs.Plan.{sized, content_rules, content_passes, slot_passes}

@@ -2,7 +2,8 @@
 use Rattle.std.specs.Prelude.{ℕ, ◌+◌, ◌-◌, ◌*◌, ◌≤◌, Bool, true, ◌&&◌, List, [], ◌∷◌, length, drop, get_or, leb, eqb}
 use Rattle.std.proofs.Math.Option.{none}
 use Rattle.meaning.specs.Sizes.{SETTINGS-BYTES, CONTENT-BYTES, RULE-BODY, SETTINGS-AT, SETTINGS-END, SETS-AT, CONTENT-AT, COUNT-AT, SET-WIDTH, RULE-WIDTH}
-use Rattle.meaning.specs.Basics.{if◌then◌else◌, all, all_of, is_zero, part, begins_with}
+use Rattle.meaning.specs.Basics.{all, all_of, is_zero, part, begins_with}
+use Rattle.std.specs.Prelude.{if◌then◌else◌}
 use Rattle.meaning.specs.Settings.{rooms_in_range, settings_in_range}
 use Rattle.meaning.specs.Filters.{filter_in_range, is_before}
 use Rattle.meaning.specs.Rules.{Rule, filter_in}

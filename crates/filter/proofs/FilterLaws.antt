@@ -11,7 +11,8 @@ use lib.Seq.{drop-cons, get_or-take, length-take-le}
 use lib.Dec.{T, eqb, leb, leb→le, lit<, lit≤}
 use borrow.Author.Tests.{eq-eqb, ne_eqb, le-leb, lt-leb}
 use Rattle.meaning.specs.Sizes.{CLASS-AT, PREFIX-AT, PREFIX-DIGITS-AT, LENGTH-AT, FILTER-BYTES}
-use Rattle.meaning.specs.Basics.{if◌then◌else◌, all, all_of, within, is_zero, is_digit, digits_of, digits_in_range, begins_with}
+use Rattle.meaning.specs.Basics.{all, all_of, within, is_zero, is_digit, digits_of, digits_in_range, begins_with}
+use Rattle.std.specs.Prelude.{if◌then◌else◌}
 use Rattle.meaning.specs.Settings.{is_class}
 use Rattle.meaning.specs.Filters.{filter_of, filter_in_range}
 use Rattle.meaning.specs.Answers.{class_of, class_numbered}

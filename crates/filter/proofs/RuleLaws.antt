@@ -11,7 +11,8 @@ use lib.Seq.{length-take-le, get_or-take, get_or-drop}
 use lib.Dec.{T, ltb, lit<, leb→le}
 use borrow.Author.Tests.{lt-ltb, le-ltb}
 use Rattle.meaning.specs.Sizes.{PREFIX-AT, FILTER-BYTES, RULE-WIDTH}
-use Rattle.meaning.specs.Basics.{if◌then◌else◌, word}
+use Rattle.meaning.specs.Basics.{word}
+use Rattle.std.specs.Prelude.{if◌then◌else◌}
 use Rattle.meaning.specs.Filters.{filter_of}
 use Rattle.meaning.specs.Rules.{Rule, filter_in, weight, first_largest_from, first_largest, chosen_place}
 use Rattle.meaning.proofs.Tests.{all_place}

@@ -8,7 +8,8 @@ use native.Mathlib.Omega.{arith}
 use lib.ListN.{length, take, drop, get_or, length-append}
 use lib.Seq.{take_all}
 use borrow.Rule.Slice.PartMut.{put_mid, mid_of}
-use Rattle.meaning.specs.Basics.{if◌then◌else◌, part, written_over}
+use Rattle.meaning.specs.Basics.{part, written_over}
+use Rattle.std.specs.Prelude.{if◌then◌else◌}
 use Rattle.meaning.specs.Settings.{settings_of}
 use Rattle.meaning.specs.Actions.{CC, AC, SN, DN, ZN, CA, cas_of, codes_of}
 use Rattle.meaning.specs.Groups.{is_set}

@@ -9,7 +9,8 @@ use lib.Seq.{take-append-add, length-take-le}
 use lib.Dec.{T, leb, eqb}
 use borrow.Author.Tests.{eq-eqb, le-leb, lt-leb, leb-true, leb-false}
 use borrow.Rule.Slice.PartMut.{put_mid, mid_of, same_len_mid}
-use Rattle.meaning.specs.Basics.{if◌then◌else◌, contains}
+use Rattle.meaning.specs.Basics.{contains}
+use Rattle.std.specs.Prelude.{if◌then◌else◌}
 use Rattle.meaning.specs.Settings.{Settings, Lookup, settings_of, lookup_of}
 use Rattle.meaning.specs.Actions.{LAST-CONDITIONED, RN, cas_of, codes_of}
 use Rattle.meaning.specs.Conditioning.{value_from}

@@ -10,7 +10,8 @@ use lib.Seq.{get_or-set_same, get_or-set_other, length-take-le}
 use lib.Dec.{T, leb, eqb}
 use borrow.Author.Tests.{eqb-true, eqb-false, leb-true, leb-false, le-leb, lt-leb}
 use Rattle.meaning.specs.Sizes.{SETTINGS-BYTES, DIALLED-DIGITS-AT, VALUE-BYTES, NUMBER-BYTES}
-use Rattle.meaning.specs.Basics.{if◌then◌else◌, any, is_zero, contains, part, digits_of}
+use Rattle.meaning.specs.Basics.{any, is_zero, contains, part, digits_of}
+use Rattle.std.specs.Prelude.{if◌then◌else◌}
 use Rattle.meaning.specs.Settings.{settings_of}
 use Rattle.meaning.specs.Actions.{CC, LAST-CONDITIONED, RN, DELIMITER-B, CA, is_ccdef, cas_of, codes_of}
 use Rattle.meaning.specs.Conditioning.{Stretch, stretch_of, digits_at, value_from}

@@ -7,7 +7,8 @@ use mathlib.Core.List.{List, [], ◌∷◌}
 use lib.ListN.{length, get_or}
 use lib.Dec.{eqb}
 use borrow.Author.Tests.{eq-eqb, ne_eqb}
-use Rattle.meaning.specs.Basics.{if◌then◌else◌, any, is_empty, part, digits_of}
+use Rattle.meaning.specs.Basics.{any, is_empty, part, digits_of}
+use Rattle.std.specs.Prelude.{if◌then◌else◌}
 use Rattle.meaning.specs.Settings.{settings_of, lookup_of}
 use Rattle.meaning.specs.Actions.{CC, RN, CA, is_ccdef}
 use Rattle.meaning.specs.Conditioning.{stretch_of, digits_at, value_from}

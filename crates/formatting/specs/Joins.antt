@@ -1,7 +1,8 @@
 -- The outgoing digits and the conditioned number as joined values, and what their writers promise.
 use Rattle.std.specs.Prelude.{ℕ, ◌+◌, ◌≤◌, ◌≡◌, false, List, [], ◌∷◌, length, take, leb}
 use Rattle.meaning.specs.Sizes.{SETTINGS-BYTES}
-use Rattle.meaning.specs.Basics.{if◌then◌else◌, written_over}
+use Rattle.meaning.specs.Basics.{written_over}
+use Rattle.std.specs.Prelude.{if◌then◌else◌}
 use Rattle.meaning.specs.Settings.{settings_of}
 use Rattle.meaning.specs.Actions.{CC, AC, SN, DN, ZN, CA, cas_of, codes_of}
 use Rattle.meaning.specs.Groups.{is_set}

@@ -1,7 +1,8 @@
 -- Where values are taken from: the bytes of a number's body that have them and, behind these, the settings.
 use Rattle.std.specs.Prelude.{ℕ, ◌+◌, ◌≤◌, ◌≡◌, Bool, List, [], length, get_or}
 use Rattle.meaning.specs.Sizes.{DELIMITER-B-AT, SETTINGS-BYTES, DIALLED-DIGITS-AT, LOOKUP-AT, LOOKUP-BYTES, VALUE-BYTES, NUMBER-BYTES}
-use Rattle.meaning.specs.Basics.{if◌then◌else◌, part, digits_of}
+use Rattle.meaning.specs.Basics.{part, digits_of}
+use Rattle.std.specs.Prelude.{if◌then◌else◌}
 use Rattle.meaning.specs.declared.Span.{Span}
 use Rattle.conditioning.specs.Marks.{PLACES}
 

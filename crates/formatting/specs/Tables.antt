@@ -1,6 +1,7 @@
 -- A table of places: of the value of each FA, where it begins and how many digits it has.
 use Rattle.std.specs.Prelude.{ℕ, ◌+◌, ◌≤◌, ◌≡◌, ◌&&◌, List, [], ◌∷◌, length, get_or, leb, eqb}
-use Rattle.meaning.specs.Basics.{if◌then◌else◌, any, part}
+use Rattle.meaning.specs.Basics.{any, part}
+use Rattle.std.specs.Prelude.{if◌then◌else◌}
 use Rattle.meaning.specs.Settings.{settings_of, lookup_of}
 use Rattle.meaning.specs.Actions.{CC, RN, DELIMITER-B, is_ccdef, cas_of}
 use Rattle.meaning.specs.Services.{Stage, value_to_send}

@@ -10,7 +10,8 @@ use lib.ListN.{length, take, get_or, get_elem?, length-map}
 use lib.Dec.{T, eqb, leb, ltb, eqb_refl}
 use borrow.Author.Tests.{eqb-true, leb-true, le-ltb}
 use Rattle.meaning.specs.Sizes.{SET-BODY, DIGIT-ROOM}
-use Rattle.meaning.specs.Basics.{if◌then◌else◌, within, all, any, count, part, is_some, word}
+use Rattle.meaning.specs.Basics.{within, all, any, count, part, is_some, word}
+use Rattle.std.specs.Prelude.{if◌then◌else◌}
 use Rattle.meaning.specs.Refusals.{PLAN, IN-USE}
 use Rattle.meaning.specs.Settings.{rooms_of, rooms_in_range}
 use Rattle.meaning.specs.Rules.{Rule, filter_in, names, chosen}

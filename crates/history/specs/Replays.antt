@@ -1,6 +1,7 @@
 -- What running a list of calls promises: which calls the bytes hold, the number of each, and what all of them leave.
 use Rattle.std.specs.Prelude.{ℕ, zero, suc, ◌≡◌, Bool, ◌&&◌, List, [], ◌∷◌, ◌++◌, length, take, drop, T, leb, eqb}
-use Rattle.meaning.specs.Basics.{if◌then◌else◌, all, written_over}
+use Rattle.meaning.specs.Basics.{all, written_over}
+use Rattle.std.specs.Prelude.{if◌then◌else◌}
 use Rattle.meaning.specs.Calls.{Call, is_call, kind_of, body_length, call_of}
 use Rattle.changes.specs.Promise.{number_for, memory_after}
 

@@ -12,7 +12,7 @@ use lib.Signed.{le_z, lt_z, mag, quot_z}
 use mir.Syntax.{w64}
 use mir.Val.{SFits}
 use Rattle.meaning.specs.Sizes.{DISTRICTS}
-use Rattle.meaning.specs.Basics.{if◌then◌else◌}
+use Rattle.std.specs.Prelude.{if◌then◌else◌}
 use Rattle.meaning.specs.Refusals.{RANGE}
 use Rattle.meaning.specs.Ledger.{LEDGER-LIMIT, ledger_of, totals_at, ledger_in_range, cents, loss_in, has_records, loss_read, total_read}
 use Rattle.meaning.specs.declared.Loss.{Loss}

@@ -1,7 +1,7 @@
 -- Sums whose loss can be worked out, and the districts that have one.
 use Rattle.std.specs.Prelude.{ℕ, zero, suc, ◌+◌, ◌*◌, ◌≤◌, ◌≡◌, true, List, ℤ, pos}
 use Rattle.std.specs.Int.Signed.{le_z, mag}
-use Rattle.meaning.specs.Basics.{if◌then◌else◌}
+use Rattle.std.specs.Prelude.{if◌then◌else◌}
 use Rattle.meaning.specs.Ledger.{LEDGER-LIMIT, UNIT-LIMIT, totals_at, has_records}
 use Rattle.meaning.specs.declared.Totals.{Totals}
 

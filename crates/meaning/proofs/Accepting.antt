@@ -11,7 +11,8 @@ use lib.Seq.{get_or-take, get_or-drop}
 use lib.Dec.{leb, ltb, eqb}
 use borrow.Author.Tests.{ne_eqb, lt-leb, eqb-true, eqb-false}
 use Rattle.meaning.specs.Sizes.{ROOMS-BYTES, ACCEPTING-AT, SETTINGS-BYTES, NUMBER-BYTES, DIGIT-ROOM}
-use Rattle.meaning.specs.Basics.{if◌then◌else◌, is_zero, is_empty}
+use Rattle.meaning.specs.Basics.{is_zero, is_empty}
+use Rattle.std.specs.Prelude.{if◌then◌else◌}
 use Rattle.meaning.specs.Refusals.{CUT, ROOM, RANGE, SHORT, first_of}
 use Rattle.meaning.specs.Settings.{Settings, settings_of, Lookup, Number, number_of, number_in_range}
 use Rattle.meaning.specs.Rules.{Rule, weight, first_largest, chosen}

@@ -9,7 +9,8 @@ use native.Mathlib.Omega.{arith}
 use lib.ListN.{length, take, get_elem?}
 use lib.Dec.{T, eqb, ltb, eqb→eq}
 use borrow.Author.Tests.{ltb-true, ltb-false}
-use Rattle.meaning.specs.Basics.{if◌then◌else◌, any, is_some, begins_with}
+use Rattle.meaning.specs.Basics.{any, is_some, begins_with}
+use Rattle.std.specs.Prelude.{if◌then◌else◌}
 use Rattle.meaning.specs.Filters.{Filter, length_fits, fits_number, stated, rank}
 use Rattle.meaning.specs.Rules.{Rule, filter_in, weight, first_largest, chosen_place, rule_at, chosen, rules_in_order}
 use Rattle.meaning.specs.Choice.{LessSpecific, shorter_prefix, wildcard_length, IsChoice, NoneFits}

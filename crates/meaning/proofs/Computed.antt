@@ -11,7 +11,8 @@ use lib.IntN.{ℤ, pos, negsuc}
 use lib.ListN.{length, take, drop, set, replicate}
 use lib.Dec.{ltb}
 use Rattle.meaning.specs.Sizes.{ROOMS-BYTES, ACCEPTING-AT, SETTINGS-BYTES, OPENING-BYTES, CONTENT-BYTES, SET-BODY, NUMBER-BYTES, LONGEST-RECORD, DIFFERENCE-FILTER-AT, LEFT-SET-AT, RIGHT-SET-AT, DIFFERENCE-BYTES, DIGIT-ROOM, RULES-AT, ROOMS-AT, SETTINGS-AT, SETTINGS-END, SETS-AT, CONTENT-AT, COUNT-AT, SET-WIDTH, RULE-WIDTH, PRICE-ROOM, PRICES-BYTES, DISTRICTS, LEDGER-NUMBERS, RUN-SETS, RUN-RULES, RUN-BYTES}
-use Rattle.meaning.specs.Basics.{if◌then◌else◌, all_of, written_over, padded}
+use Rattle.meaning.specs.Basics.{all_of, written_over, padded}
+use Rattle.std.specs.Prelude.{if◌then◌else◌}
 use Rattle.meaning.specs.Settings.{Number, rooms_of, rooms_in_range, bytes_needed, settings_of, settings_in_range, lookup_of, entity_in_range, asd_or_grn_in_range, lookup_in_range, number_of, number_in_range, dialled_in_range}
 use Rattle.meaning.specs.Filters.{filter_of, filter_in_range, fits_number, rank, compare_filters}
 use Rattle.meaning.specs.Rules.{first_largest, weight, chosen_place, chosen}

@@ -9,7 +9,8 @@ use lib.ListN.{length, take, drop, length-append, length-drop}
 use lib.Seq.{length-take-le}
 use lib.Dec.{T, leb, eqb, eqb→eq, leb→le}
 use borrow.Author.Tests.{eqb-true, eqb-false, leb-true, leb-false, le-leb, eq-eqb, ne_eqb}
-use Rattle.meaning.specs.Basics.{if◌then◌else◌, all, any, all_of, is_empty, is_zero, within, part}
+use Rattle.meaning.specs.Basics.{all, any, all_of, is_empty, is_zero, within, part}
+use Rattle.std.specs.Prelude.{if◌then◌else◌}
 use Rattle.meaning.specs.Actions.{CC, AC, SN, DN, ZN, IGN, LAST-COUNTED, SNX, ZNX, FPFX, CCDEF, CA, is_ign, is_x, is_fpfx, is_ccdef, value_of, sets_value, most_of, ca_in_range}
 use Rattle.meaning.specs.Groups.{is_set, one_format, format_stands}
 use Rattle.meaning.specs.Conditioning.{Stretch, stretch_of, digits_at, value_from, conditioned_from}

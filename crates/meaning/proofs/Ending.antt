@@ -10,7 +10,7 @@ use lib.ListN.{length, take, drop, length-drop}
 use lib.Seq.{drop-drop}
 use lib.Dec.{ltb}
 use borrow.Author.Tests.{ltb-false}
-use Rattle.meaning.specs.Basics.{if◌then◌else◌}
+use Rattle.std.specs.Prelude.{if◌then◌else◌}
 use Rattle.meaning.specs.Refusals.{CUT, KIND}
 use Rattle.meaning.specs.Calls.{is_kind, body_length}
 use Rattle.meaning.specs.Records.{House, new_house, record_house, End, end_here, end_behind, end_from, file_end}

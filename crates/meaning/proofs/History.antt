@@ -9,7 +9,8 @@ use native.Mathlib.Omega.{arith}
 use lib.ListN.{length, get_or, get_or-eq_default}
 use lib.Dec.{T, eqb, leb}
 use borrow.Author.Tests.{eqb-true, leb-true}
-use Rattle.meaning.specs.Basics.{if◌then◌else◌, all, any, count, is_zero, is_some}
+use Rattle.meaning.specs.Basics.{all, any, count, is_zero, is_some}
+use Rattle.std.specs.Prelude.{if◌then◌else◌}
 use Rattle.meaning.specs.Refusals.{CUT, PLAN, IN-USE, Line, first_of}
 use Rattle.meaning.specs.Settings.{Rooms, rooms_of}
 use Rattle.meaning.specs.Filters.{Filter, filter_of}

@@ -11,7 +11,7 @@ use lib.Signed.{le_z}
 use lib.ListN.{length, get_or, set, length-set, get_or-replicate}
 use lib.Seq.{get_or-set_same, get_or-set_other}
 use Rattle.meaning.specs.Sizes.{DISTRICTS, LEDGER-NUMBERS}
-use Rattle.meaning.specs.Basics.{if◌then◌else◌}
+use Rattle.std.specs.Prelude.{if◌then◌else◌}
 use Rattle.meaning.specs.Ledger.{LEDGER-LIMIT, UNIT-LIMIT, Ledger, totals_of, totals_at, empty_ledger, sum_in_range, totals_in_range, districts_in_range, ledger_in_range, is_full, Entry, plus, with_totals, entered}
 use Rattle.meaning.specs.declared.Totals.{Totals}
 

@@ -10,7 +10,8 @@ use native.Mathlib.Omega.{arith}
 use native.Mathlib.Nat.{le_of_suc-le-suc}
 use lib.ListN.{length, get_or}
 use lib.Dec.{T, T_not}
-use Rattle.meaning.specs.Basics.{if◌then◌else◌, all}
+use Rattle.meaning.specs.Basics.{all}
+use Rattle.std.specs.Prelude.{if◌then◌else◌}
 use Rattle.meaning.specs.Filters.{Filter, is_lt, is_before, is_same, compare_filters}
 use Rattle.meaning.specs.Rules.{Rule, filter_in, has_filter, set_named, rules_in_order}
 use Rattle.meaning.specs.Plan.{Plan}

@@ -8,7 +8,8 @@ use mathlib.Core.Option.{Option, none, some}
 use native.Mathlib.Omega.{arith}
 use lib.ListN.{length}
 use lib.Dec.{T, T_not}
-use Rattle.meaning.specs.Basics.{if◌then◌else◌, all}
+use Rattle.meaning.specs.Basics.{all}
+use Rattle.std.specs.Prelude.{if◌then◌else◌}
 use Rattle.meaning.specs.Filters.{Filter, compare_filters}
 use Rattle.meaning.specs.Rules.{Rule, filter_in, rules_in_order}
 use Rattle.meaning.specs.Plan.{Plan, held}

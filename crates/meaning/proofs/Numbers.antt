@@ -10,7 +10,8 @@ use lib.ListN.{length, take, drop, get_or, length-take, get_or-eq_default}
 use lib.Dec.{T, leb, ltb, leb→le}
 use borrow.Author.Tests.{le-ltb, le-leb, leb-true, leb-false}
 use Rattle.meaning.specs.Sizes.{DIGIT-ROOM}
-use Rattle.meaning.specs.Basics.{if◌then◌else◌, all, any, all_of, is_empty, is_digit, is_zero, within, part, digits_of, digits_in_range}
+use Rattle.meaning.specs.Basics.{all, any, all_of, is_empty, is_digit, is_zero, within, part, digits_of, digits_in_range}
+use Rattle.std.specs.Prelude.{if◌then◌else◌}
 use Rattle.meaning.specs.Refusals.{ROOM, RANGE, SHORT, first_of}
 use Rattle.meaning.specs.Settings.{is_class, Settings, settings_of, settings_ranges, settings_in_range, dialled_ranges, dialled_in_range}
 use Rattle.meaning.specs.Filters.{Filter, fits_number}

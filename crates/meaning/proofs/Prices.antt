@@ -10,7 +10,8 @@ use lib.ListN.{length, take}
 use lib.Dec.{T, ltb}
 use borrow.Author.Tests.{ltb-true, ltb-false, ne_eqb}
 use Rattle.meaning.specs.Sizes.{PRICE-BODY}
-use Rattle.meaning.specs.Basics.{if◌then◌else◌, all, begins_with}
+use Rattle.meaning.specs.Basics.{all, begins_with}
+use Rattle.std.specs.Prelude.{if◌then◌else◌}
 use Rattle.meaning.specs.Filters.{is_lt}
 use Rattle.meaning.specs.Rules.{first_largest}
 use Rattle.meaning.specs.Prices.{PriceRow, row_given, row_weight, row_place, price_at, price_for, is_before_row, rows_in_order, list_tests, prices_pass, price_refusal, with_row, rows_after}

@@ -10,7 +10,8 @@ use lib.Seq.{get_or-set_same, get_or-set_other, take_all}
 use lib.Dec.{T, T_not, eqb, compare_is_eq}
 use borrow.Author.Tests.{eqb-true, eqb-false}
 use Rattle.meaning.specs.Sizes.{ROOMS-BYTES, SETTINGS-BYTES, OPENING-BYTES}
-use Rattle.meaning.specs.Basics.{if◌then◌else◌, any, is_some}
+use Rattle.meaning.specs.Basics.{any, is_some}
+use Rattle.std.specs.Prelude.{if◌then◌else◌}
 use Rattle.meaning.specs.Refusals.{Line, first_of}
 use Rattle.meaning.specs.Settings.{Rooms, rooms_of}
 use Rattle.meaning.specs.Filters.{Filter, filter_of, filter_in_range, is_same}

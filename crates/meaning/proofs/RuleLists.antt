@@ -8,7 +8,8 @@ use native.Mathlib.Omega.{arith}
 use native.Mathlib.Nat.{le_of_suc-le-suc}
 use lib.ListN.{length, get_or}
 use lib.Dec.{T, compare_is_eq}
-use Rattle.meaning.specs.Basics.{if◌then◌else◌, all, any}
+use Rattle.meaning.specs.Basics.{all, any}
+use Rattle.std.specs.Prelude.{if◌then◌else◌}
 use Rattle.meaning.specs.Filters.{Filter, filter_of, compare_filters, is_lt, is_before, is_same}
 use Rattle.meaning.specs.Rules.{Rule, filter_in, has_filter, rules_in_order, insert, rename, without}
 use Rattle.meaning.proofs.ListingOrder.{flip, Lawful, filters}

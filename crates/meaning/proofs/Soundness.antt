@@ -10,7 +10,8 @@ use lib.Seq.{get_or-set_same, get_or-set_other, length-take-le}
 use lib.Dec.{T, T_not, not_T, eqb, leb, ltb, eqb→eq, eqb_refl, le→leb, leb→le, nleb→lt, nltb→le}
 use borrow.Author.Tests.{eqb-true, eqb-false}
 use Rattle.meaning.specs.Sizes.{ROOMS-BYTES, SETTINGS-BYTES, OPENING-BYTES, SET-NUMBER-BYTES, CONTENT-BYTES, SET-BODY, FILTER-BYTES, RULE-BODY}
-use Rattle.meaning.specs.Basics.{if◌then◌else◌, all, any, all_of, is_some}
+use Rattle.meaning.specs.Basics.{all, any, all_of, is_some}
+use Rattle.std.specs.Prelude.{if◌then◌else◌}
 use Rattle.meaning.specs.Refusals.{Line, first_of}
 use Rattle.meaning.specs.Settings.{Rooms, rooms_of, rooms_in_range, settings_in_range}
 use Rattle.meaning.specs.Filters.{Filter, filter_of, filter_in_range}

@@ -10,7 +10,8 @@ use lib.ListN.{length, take, drop, get_or, take-append-drop}
 use lib.Seq.{drop-drop, drop-length}
 use lib.Dec.{T, T_not, ltb, leb, eqb, eqb_refl, eqb→eq, leb→le, ltb→lt}
 use borrow.Author.Tests.{eqb-true, eqb-false, leb-true, leb-false, ltb-true, ltb-false, lt-ltb, le-ltb, le-leb, lt-leb, eq-eqb, ne_eqb}
-use Rattle.meaning.specs.Basics.{if◌then◌else◌, all, any, is_empty, is_zero, within, part}
+use Rattle.meaning.specs.Basics.{all, any, is_empty, is_zero, within, part}
+use Rattle.std.specs.Prelude.{if◌then◌else◌}
 use Rattle.meaning.specs.Filters.{Filter, length_fits, fits_number}
 use Rattle.meaning.specs.Actions.{IGN, LAST-COUNTED, SNX, ZNX, FPFX, CCDEF, CA, is_ign, is_x, is_fpfx, is_ccdef, value_of, sets_value, ActionSet, cas_of, cas_in_range, ca_in_range, most_of}
 use Rattle.meaning.specs.Groups.{is_set, each_value_once, fpfx_first, only_ccdef_after_x, fixed_of, fixed_sum, fpfx_meets_prefix, sum_fits, cas_fit}

@@ -11,7 +11,8 @@ use lib.ListN.{length, take, drop, get_or, set, replicate, length-take, length-d
 use lib.Seq.{length-take-le}
 use lib.Dec.{T, T_not, leb, eqb, leb→le, eqb_refl, eqb→eq}
 use borrow.Author.Tests.{eqb-true, eqb-false}
-use Rattle.meaning.specs.Basics.{if◌then◌else◌, all, any, count, all_of, within, is_zero, is_some, part, is_digit, same_bytes, digits_of, digits_in_range}
+use Rattle.meaning.specs.Basics.{all, any, count, all_of, within, is_zero, is_some, part, is_digit, same_bytes, digits_of, digits_in_range}
+use Rattle.std.specs.Prelude.{if◌then◌else◌}
 use Rattle.meaning.specs.Refusals.{Line, first_of}
 
 -- BOOLEANS

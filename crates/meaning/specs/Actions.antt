@@ -1,7 +1,8 @@
 -- Document 01, "Action sets": what the bytes of a set's content hold, and their RANGE.
 use Rattle.std.specs.Prelude.{ℕ, Bool, true, false, ◌&&◌, List, [], ◌∷◌, take, drop, get_or, leb, eqb}
 use Rattle.meaning.specs.Sizes.{OUTGOING-AT, CA-AT, SA-AT, FA-AT}
-use Rattle.meaning.specs.Basics.{if◌then◌else◌, all, any, all_of, is_zero, within, part}
+use Rattle.meaning.specs.Basics.{all, any, all_of, is_zero, within, part}
+use Rattle.std.specs.Prelude.{if◌then◌else◌}
 use Rattle.meaning.specs.Settings.{is_outgoing_class}
 
 -- THE VALUES, by their FA codes: "1 CC, 2 AC, 3 SN, 4 DN, 5 ZN, 6 FPFX, 7 to 10 PFXA to PFXD, 11 RN, 12 SP, 13 ASD, 14 GRN, 15 and 16 delimiters A and B"

@@ -2,7 +2,8 @@
 use Prim.Native.Nat.{ℕ, Ordering}
 use Rattle.std.specs.Prelude.{◌≡◌, List, [], ◌∷◌, ℤ, length, replicate, eqb}
 use Rattle.std.proofs.Math.Option.{Option, none, some}
-use Rattle.meaning.specs.Basics.{if◌then◌else◌, padded}
+use Rattle.meaning.specs.Basics.{padded}
+use Rattle.std.specs.Prelude.{if◌then◌else◌}
 use Rattle.meaning.specs.Refusals.{ACCEPTED, CUT, KIND, PLAN, ROOM, RANGE, GROUPS, TAKEN, ABSENT, MISFIT, FULL, IN-USE, SHORT, LONG, NO-PRICE, LEDGER-FULL}
 use Rattle.meaning.specs.Settings.{is_class, AS-INCOMING}
 use Rattle.meaning.specs.Answer.{Answer}

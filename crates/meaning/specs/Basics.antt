@@ -1,14 +1,8 @@
 -- Tests, parts of lists, and the bytes that document 01's records are made of. Nothing here is particular to numbering plans.
-use Rattle.std.specs.Prelude.{ℕ, zero, suc, ◌+◌, ◌-◌, ◌*◌, ◌/◌, ◌%◌, Bool, true, false, ◌&&◌, ◌||◌, List, [], ◌∷◌, ◌++◌, length, take, drop, get_or, replicate, leb, eqb}
+use Rattle.std.specs.Prelude.{if◌then◌else◌, ℕ, zero, suc, ◌+◌, ◌-◌, ◌*◌, ◌/◌, ◌%◌, Bool, true, false, ◌&&◌, ◌||◌, List, [], ◌∷◌, ◌++◌, length, take, drop, get_or, replicate, leb, eqb}
 use Rattle.std.proofs.Math.Option.{Option, none, some}
 
 -- TESTS
-
-module _ {A : Type 0} where
-  infixr 20 if◌then◌else◌
-  abbrev pub if◌then◌else◌ : Bool → A → A → A
-  if true then a else b = a
-  if false then a else b = b
 
 abbrev pub is_zero : ℕ → Bool
 is_zero n = eqb n 0

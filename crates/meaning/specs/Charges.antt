@@ -2,7 +2,8 @@
 use Rattle.std.specs.Prelude.{ℕ, ◌*◌, Bool, true, false, ◌&&◌, not, List, [], ◌∷◌, length, take, leb, ltb, eqb}
 use Rattle.std.proofs.Math.Option.{Option, none, some}
 use Rattle.meaning.specs.Sizes.{NUMBER-BYTES, DISTRICT-AT, SECONDS-AT, BILLED-AT, CALL-HEAD, CALL-BYTES, DIGIT-ROOM, DISTRICTS}
-use Rattle.meaning.specs.Basics.{if◌then◌else◌, all_of, is_zero, is_some, part, word, quad}
+use Rattle.meaning.specs.Basics.{all_of, is_zero, is_some, part, word, quad}
+use Rattle.std.specs.Prelude.{if◌then◌else◌}
 use Rattle.meaning.specs.Refusals.{CUT, PLAN, ROOM, RANGE, NO-PRICE, LEDGER-FULL, Line, first_of}
 use Rattle.meaning.specs.Settings.{Number, number_of, number_in_range}
 use Rattle.meaning.specs.Plan.{Plan}

@@ -4,7 +4,8 @@ use Rattle.std.specs.Prelude.{ℕ, ◌*◌, ◌≡◌, ◌↔◌, ◌≢◌, Boo
 use mathlib.Core.List.{List, [], ◌∷◌, ◌++◌, map, Memᴰ}
 use Rattle.std.proofs.Math.Option.{Option, none, some}
 use Rattle.meaning.specs.Sizes.{DIFFERENCE-BYTES}
-use Rattle.meaning.specs.Basics.{if◌then◌else◌, any, same_bytes, word_bytes}
+use Rattle.meaning.specs.Basics.{any, same_bytes, word_bytes}
+use Rattle.std.specs.Prelude.{if◌then◌else◌}
 use Rattle.meaning.specs.Refusals.{PLAN, ROOM}
 use Rattle.meaning.specs.Settings.{Number}
 use Rattle.meaning.specs.Filters.{Filter, compare_filters}

@@ -2,7 +2,8 @@
 use Rattle.std.specs.Prelude.{ℕ, ◌≡◌, Bool, true, false, List, [], ◌∷◌, ◌++◌, map, length, replicate}
 use Rattle.std.proofs.Math.Option.{Option, none, some}
 use Rattle.meaning.specs.Sizes.{SETTINGS-BYTES, CONTENT-BYTES, NUMBER-BYTES, DIGIT-ROOM}
-use Rattle.meaning.specs.Basics.{if◌then◌else◌, padded}
+use Rattle.meaning.specs.Basics.{padded}
+use Rattle.std.specs.Prelude.{if◌then◌else◌}
 use Rattle.meaning.specs.Settings.{bytes_needed}
 use Rattle.meaning.specs.Rules.{Rule, chosen}
 use Rattle.meaning.specs.Plan.{Plan}

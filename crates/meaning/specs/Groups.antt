@@ -1,6 +1,7 @@
 -- Document 01's group rules, each under its own name, and the fit of a rule and a set.
 use Rattle.std.specs.Prelude.{ℕ, zero, suc, ◌+◌, Bool, true, false, ◌&&◌, ◌||◌, not, List, [], ◌∷◌, length, drop, get_or, leb, ltb, eqb}
-use Rattle.meaning.specs.Basics.{if◌then◌else◌, all, any, count, all_of, is_empty, is_zero, contains}
+use Rattle.meaning.specs.Basics.{all, any, count, all_of, is_empty, is_zero, contains}
+use Rattle.std.specs.Prelude.{if◌then◌else◌}
 use Rattle.meaning.specs.Filters.{Filter}
 use Rattle.meaning.specs.Actions.{CC, AC, SN, DN, ZN, SP, ASD, GRN, LAST-CONDITIONED, CDPNNP, ASDLKUP, GRNLKUP, LAST-COUNTED, CA, is_x, is_fpfx, is_ccdef, value_of, sets_value, ActionSet}
 

@@ -4,7 +4,8 @@ use Rattle.std.specs.Prelude.{ℕ, zero, suc, ◌+◌, ◌*◌, ◌/◌, Bool, t
 use Rattle.std.proofs.Math.Option.{Option, none, some}
 use Rattle.std.specs.Int.Signed.{le_z}
 use Rattle.meaning.specs.Sizes.{DISTRICTS, LEDGER-NUMBERS}
-use Rattle.meaning.specs.Basics.{if◌then◌else◌, all_of}
+use Rattle.meaning.specs.Basics.{all_of}
+use Rattle.std.specs.Prelude.{if◌then◌else◌}
 use Rattle.meaning.specs.Refusals.{RANGE}
 use Rattle.meaning.specs.declared.Totals.{Totals}
 

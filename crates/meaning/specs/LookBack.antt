@@ -2,7 +2,7 @@
 -- opening's rooms and settings, and each set or filter added and not since removed, with the content or set number last accepted for it."
 use Rattle.std.specs.Prelude.{ℕ, Bool, true, false, List, [], ◌∷◌, eqb}
 use Rattle.std.proofs.Math.Option.{Option, none, some}
-use Rattle.meaning.specs.Basics.{if◌then◌else◌}
+use Rattle.std.specs.Prelude.{if◌then◌else◌}
 use Rattle.meaning.specs.Filters.{Filter, filter_of, is_same}
 use Rattle.meaning.specs.Plan.{Plan}
 use Rattle.meaning.specs.Calls.{Operation, open_plan, add_set, replace_set, remove_set, add_rule, change_rule, remove_rule, Call, body_of, set_number, content_given, code_given, set_given, is_accepted, after}

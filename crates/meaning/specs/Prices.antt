@@ -4,7 +4,8 @@ use Rattle.std.specs.Prelude.{Bool, true, false, ◌&&◌, not, List, [], ◌∷
 use Rattle.std.proofs.Math.Option.{Option, none, some}
 use Rattle.std.proofs.Math.ListN.{get_elem?}
 use Rattle.meaning.specs.Sizes.{CODE-BYTES, PRICE-BODY, PRICE-ROOM}
-use Rattle.meaning.specs.Basics.{if◌then◌else◌, all_of, all, any, is_zero, is_digit, begins_with, same_bytes, quad, digits_of, digits_in_range}
+use Rattle.meaning.specs.Basics.{all_of, all, any, is_zero, is_digit, begins_with, same_bytes, quad, digits_of, digits_in_range}
+use Rattle.std.specs.Prelude.{if◌then◌else◌}
 use Rattle.meaning.specs.Refusals.{CUT, RANGE, TAKEN, FULL, Line, first_of}
 use Rattle.meaning.specs.Filters.{compare_prefixes, is_lt}
 use Rattle.meaning.specs.Rules.{first_largest}

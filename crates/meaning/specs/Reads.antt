@@ -3,7 +3,8 @@ use Rattle.std.specs.Prelude.{ℕ, zero, suc, ◌/◌, ◌%◌, Bool, true, fals
 use Rattle.std.proofs.Math.Option.{Option, none, some}
 use Rattle.std.proofs.Math.ListN.{get_elem?}
 use Rattle.meaning.specs.Sizes.{SET-BODY, DIGIT-ROOM}
-use Rattle.meaning.specs.Basics.{if◌then◌else◌, is_empty, within, is_some}
+use Rattle.meaning.specs.Basics.{is_empty, within, is_some}
+use Rattle.std.specs.Prelude.{if◌then◌else◌}
 use Rattle.meaning.specs.Refusals.{PLAN, ROOM, RANGE, ABSENT, SHORT, Line, first_of}
 use Rattle.meaning.specs.Settings.{Rooms, Settings, dialled_in_range}
 use Rattle.meaning.specs.Filters.{Filter}

@@ -2,7 +2,8 @@
 use Rattle.std.specs.Prelude.{ℕ, zero, suc, ◌+◌, ◌/◌, ◌%◌, Bool, true, false, ◌||◌, not, List, [], ◌∷◌, ◌++◌, map, ℤ, pos, negsuc, length, take, drop, ltb, eqb}
 use Rattle.std.proofs.Math.Option.{Option, none, some}
 use Rattle.meaning.specs.Sizes.{DIGIT-ROOM, DISTRICTS, RUN-SETS, RUN-RULES}
-use Rattle.meaning.specs.Basics.{if◌then◌else◌, is_zero, word}
+use Rattle.meaning.specs.Basics.{is_zero, word}
+use Rattle.std.specs.Prelude.{if◌then◌else◌}
 use Rattle.meaning.specs.Refusals.{CUT, KIND, PLAN}
 use Rattle.meaning.specs.Settings.{rooms_of}
 use Rattle.meaning.specs.Plan.{Plan}

@@ -1,6 +1,6 @@
 -- Document 01, "Refusal numbers": the thirteen by name, the two of C-11, and how a list of checks in order gives the one that is answered.
 use Rattle.std.specs.Prelude.{ℕ, Bool, List, [], ◌∷◌}
-use Rattle.meaning.specs.Basics.{if◌then◌else◌}
+use Rattle.std.specs.Prelude.{if◌then◌else◌}
 
 abbrev pub ACCEPTED : ℕ
 ACCEPTED = 0

@@ -2,7 +2,8 @@
 use Rattle.std.specs.Prelude.{ℕ, suc, ◌+◌, Bool, true, false, ◌&&◌, List, [], ◌∷◌, map, ltb, eqb}
 use Rattle.std.proofs.Math.Option.{Option, none, some}
 use Rattle.std.proofs.Math.ListN.{get_elem?}
-use Rattle.meaning.specs.Basics.{if◌then◌else◌, all, any, count}
+use Rattle.meaning.specs.Basics.{all, any, count}
+use Rattle.std.specs.Prelude.{if◌then◌else◌}
 use Rattle.meaning.specs.Filters.{Filter, filter_of, fits_number, rank, is_before, is_same}
 
 -- a rule: the bytes of its filter, and the number of the set it names

@@ -1,6 +1,7 @@
 -- Document 01, "Carrying it out", the service actions and formatting.
 use Rattle.std.specs.Prelude.{ℕ, ◌-◌, Bool, true, false, ◌&&◌, ◌||◌, not, List, [], ◌∷◌, ◌++◌, length, take, get_or, replicate, leb, eqb}
-use Rattle.meaning.specs.Basics.{if◌then◌else◌, is_zero, is_empty, contains}
+use Rattle.meaning.specs.Basics.{is_zero, is_empty, contains}
+use Rattle.std.specs.Prelude.{if◌then◌else◌}
 use Rattle.meaning.specs.Settings.{Settings, Lookup}
 use Rattle.meaning.specs.Actions.{RN, LAST-CONDITIONED, INPRTG, CDPNNP, ASDLKUP, GRNLKUP, CDIAL}
 

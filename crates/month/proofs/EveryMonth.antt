@@ -9,7 +9,8 @@ use borrow.Author.Tests.{lt-ltb, lt-leb}
 use lib.IntN.{ℤ, pos}
 use lib.ListN.{length}
 use Rattle.meaning.specs.Sizes.{DISTRICTS}
-use Rattle.meaning.specs.Basics.{if◌then◌else◌, is_empty}
+use Rattle.meaning.specs.Basics.{is_empty}
+use Rattle.std.specs.Prelude.{if◌then◌else◌}
 use Rattle.meaning.specs.Ledger.{LEDGER-LIMIT, Ledger, empty_ledger, totals_at, ledger_in_range, has_records, Entry, loss_in, loss_read, total_read}
 use Rattle.meaning.specs.declared.Totals.{Totals}
 use Rattle.meaning.proofs.Ledgers.{whole_natural, sums_fit, empty_in_range}

@@ -9,7 +9,8 @@ use lib.ListN.{length, take}
 use lib.Dec.{ltb, eqb-suc-zero}
 use borrow.Author.Tests.{eqb-true}
 use Rattle.meaning.specs.Sizes.{CALL-BYTES, DIGIT-ROOM, DISTRICTS}
-use Rattle.meaning.specs.Basics.{if◌then◌else◌, is_zero, is_some}
+use Rattle.meaning.specs.Basics.{is_zero, is_some}
+use Rattle.std.specs.Prelude.{if◌then◌else◌}
 use Rattle.meaning.specs.Refusals.{ROOM, RANGE, NO-PRICE, LEDGER-FULL, PLAN, Line, first_of}
 use Rattle.meaning.specs.Plan.{Plan}
 use Rattle.meaning.specs.Prices.{PriceRow, prices_pass}

@@ -11,7 +11,8 @@ use lib.Seq.{take-append-le, drop-append-le}
 use lib.Dec.{leb, ltb, eqb}
 use borrow.Author.Tests.{eqb-true, ltb-false, le-ltb, leb-true, lt-leb}
 use Rattle.meaning.specs.Sizes.{CALL-BYTES, DIGIT-ROOM, DISTRICTS}
-use Rattle.meaning.specs.Basics.{if◌then◌else◌, is_zero, is_empty}
+use Rattle.meaning.specs.Basics.{is_zero, is_empty}
+use Rattle.std.specs.Prelude.{if◌then◌else◌}
 use Rattle.meaning.specs.Refusals.{CUT, KIND}
 use Rattle.meaning.specs.Plan.{Plan}
 use Rattle.meaning.specs.Prices.{PriceRow, rows_after}

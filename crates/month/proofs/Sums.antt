@@ -8,7 +8,7 @@ use lib.Dec.{eqb}
 use lib.IntN.{ℤ, pos}
 use lib.ListN.{length, replicate, length-append}
 use Rattle.meaning.specs.Sizes.{DISTRICTS, LEDGER-NUMBERS}
-use Rattle.meaning.specs.Basics.{if◌then◌else◌}
+use Rattle.std.specs.Prelude.{if◌then◌else◌}
 use Rattle.meaning.specs.Ledger.{ledger_of, totals_at, empty_ledger, Entry, plus, with_totals, entered}
 use Rattle.month.specs.Entries.{dues, bills, of_district, totals_over, sums_from, ledger_over}
 

@@ -4,7 +4,8 @@
 use Rattle.std.specs.Prelude.{ℕ, ◌≤◌, ◌<◌, ◌^◌, ◌≡◌, true, List, [], ◌++◌, ℤ, pos, ◌-ℤ◌, length}
 use Rattle.std.proofs.Math.Option.{none, some}
 use Rattle.meaning.specs.Sizes.{DISTRICTS}
-use Rattle.meaning.specs.Basics.{if◌then◌else◌, is_empty}
+use Rattle.meaning.specs.Basics.{is_empty}
+use Rattle.std.specs.Prelude.{if◌then◌else◌}
 use Rattle.meaning.specs.Ledger.{LEDGER-LIMIT, Ledger, empty_ledger, totals_at, ledger_in_range, Entry, cents, loss_read, total_read}
 use Rattle.meaning.specs.Answers.{loss_given}
 use Rattle.meaning.specs.declared.LossAnswer.{LossAnswer}

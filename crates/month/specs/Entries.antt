@@ -1,7 +1,7 @@
 -- Sums over accepted call records, and the ledger that they make.
 use Rattle.std.specs.Prelude.{ℕ, zero, suc, ◌+◌, List, [], ◌∷◌, ◌++◌, ℤ, pos, length, eqb}
 use Rattle.meaning.specs.Sizes.{DISTRICTS}
-use Rattle.meaning.specs.Basics.{if◌then◌else◌}
+use Rattle.std.specs.Prelude.{if◌then◌else◌}
 use Rattle.meaning.specs.Ledger.{Ledger, ledger_of, totals_of, Entry}
 use Rattle.meaning.specs.declared.Totals.{Totals}
 

@@ -2,7 +2,8 @@
 use Rattle.std.specs.Prelude.{ℕ, List, [], ◌∷◌, ◌++◌, length, take}
 use Rattle.std.proofs.Math.Option.{Option, none, some}
 use Rattle.meaning.specs.Sizes.{CALL-BYTES}
-use Rattle.meaning.specs.Basics.{if◌then◌else◌, is_zero}
+use Rattle.meaning.specs.Basics.{is_zero}
+use Rattle.std.specs.Prelude.{if◌then◌else◌}
 use Rattle.meaning.specs.Plan.{Plan}
 use Rattle.meaning.specs.Calls.{Call, lacks_bytes, refusal, after}
 use Rattle.meaning.specs.Prices.{PriceRow, price_refusal, rows_after}

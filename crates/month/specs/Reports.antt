@@ -2,7 +2,8 @@
 use Rattle.std.specs.Prelude.{ℕ, zero, suc, ◌+◌, ◌≡◌, not, List, [], ◌∷◌, ◌++◌, length, take, drop, ltb, eqb}
 use Rattle.std.proofs.Math.Option.{Option, none, some}
 use Rattle.meaning.specs.Sizes.{CALL-BYTES, DIGIT-ROOM, DISTRICTS}
-use Rattle.meaning.specs.Basics.{if◌then◌else◌, is_zero, is_empty}
+use Rattle.meaning.specs.Basics.{is_zero, is_empty}
+use Rattle.std.specs.Prelude.{if◌then◌else◌}
 use Rattle.meaning.specs.Plan.{Plan}
 use Rattle.meaning.specs.Prices.{PriceRow}
 use Rattle.meaning.specs.Ledger.{Ledger, Entry}

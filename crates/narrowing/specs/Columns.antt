@@ -1,7 +1,7 @@
 -- A column of the rule slots: the bytes at one offset of each; and what a rule weighs by its length alone.
 use Rattle.std.specs.Prelude.{ℕ, ◌+◌, ◌*◌, ◌-◌, ◌≤◌, ◌<◌, List, length, get_or}
 use Rattle.meaning.specs.Sizes.{RULE-WIDTH}
-use Rattle.meaning.specs.Basics.{if◌then◌else◌}
+use Rattle.std.specs.Prelude.{if◌then◌else◌}
 use Rattle.meaning.specs.Filters.{length_fits, stated}
 
 -- the byte at an offset of the slot at place k

@@ -10,7 +10,8 @@ use native.Mathlib.Omega.{arith}
 use lib.ListN.{length, take, drop, get_or, length-take, length-append}
 use lib.Dec.{T, leb, eqb, leb→le}
 use borrow.Author.Tests.{leb-true}
-use Rattle.meaning.specs.Basics.{if◌then◌else◌, all, any, is_empty, is_zero, is_digit, within, contains, part, digits_of, digits_in_range}
+use Rattle.meaning.specs.Basics.{all, any, is_empty, is_zero, is_digit, within, contains, part, digits_of, digits_in_range}
+use Rattle.std.specs.Prelude.{if◌then◌else◌}
 use Rattle.meaning.specs.Refusals.{SHORT, LONG}
 use Rattle.meaning.specs.Settings.{AS-INCOMING, is_class, is_outgoing_class, Settings, settings_of, settings_ranges, settings_in_range, Lookup, lookup_of, entity_in_range, asd_or_grn_in_range, lookup_ranges, lookup_in_range, Number, number_of, number_ranges, number_in_range}
 use Rattle.meaning.specs.Filters.{Filter}

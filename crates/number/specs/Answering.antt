@@ -2,7 +2,7 @@
 use Rattle.std.specs.Prelude.{ℕ, ◌≤◌, ◌≡◌, true, List, [], length, get_or, leb}
 use Rattle.std.proofs.Math.Option.{some}
 use Rattle.meaning.specs.Sizes.{SETTINGS-BYTES, CONTENT-BYTES, CLASS-AT, NUMBER-BYTES}
-use Rattle.meaning.specs.Basics.{if◌then◌else◌}
+use Rattle.std.specs.Prelude.{if◌then◌else◌}
 use Rattle.meaning.specs.Refusals.{LONG}
 use Rattle.meaning.specs.Settings.{settings_of, lookup_of, number_of, number_in_range}
 use Rattle.meaning.specs.Rules.{chosen_place}

@@ -11,7 +11,8 @@ use lib.ListN.{length, take, drop, get_or, length-append, length-take, length-dr
 use lib.Seq.{take_at, drop_at, take-length, drop-append-le, take-append-le, drop-drop, get_or-drop, length-take-le}
 use lib.Dec.{T, leb, eqb→eq, leb→le, le→leb}
 use Rattle.meaning.specs.Sizes.{ROOMS-BYTES, SETTINGS-BYTES, CONTENT-BYTES, FILTER-BYTES, SET-AT, RULE-BODY, SETTINGS-AT, SETTINGS-END, SETS-AT, COUNT-AT, SET-WIDTH, RULE-WIDTH}
-use Rattle.meaning.specs.Basics.{if◌then◌else◌, all, all_of, is_zero, word, part, word_bytes}
+use Rattle.meaning.specs.Basics.{all, all_of, is_zero, word, part, word_bytes}
+use Rattle.std.specs.Prelude.{if◌then◌else◌}
 use Rattle.meaning.specs.Settings.{Rooms, rooms_of, bytes_needed}
 use Rattle.meaning.specs.Rules.{Rule}
 use Rattle.meaning.specs.Plan.{Plan, rooms_in, sound, sized, content_rules, content_passes, slot_passes, code_passes, codes_pass}

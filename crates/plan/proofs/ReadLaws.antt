@@ -11,7 +11,8 @@ use lib.Seq.{get_or-take, get_or-drop, drop-drop, length-take-le}
 use lib.Dec.{T, eqb, leb, leb→le, le→leb, lit<, lit≤}
 use borrow.Author.Tests.{eq-eqb, ne_eqb, leb-false}
 use Rattle.meaning.specs.Sizes.{ROOMS-BYTES, CONTENT-BYTES, PREFIX-AT, FILTER-BYTES, HEADER-BYTES, SETS-AT, CONTENT-AT, COUNT-AT, SET-WIDTH, RULE-WIDTH}
-use Rattle.meaning.specs.Basics.{if◌then◌else◌, all, count, is_zero, is_some, within, word, part}
+use Rattle.meaning.specs.Basics.{all, count, is_zero, is_some, within, word, part}
+use Rattle.std.specs.Prelude.{if◌then◌else◌}
 use Rattle.meaning.specs.Settings.{rooms_of, rooms_in_range, bytes_needed}
 use Rattle.meaning.specs.Filters.{filter_in_range}
 use Rattle.meaning.specs.Rules.{names}

@@ -2,7 +2,8 @@
 use Rattle.std.specs.Prelude.{ℕ, ◌+◌, ◌-◌, ◌*◌, Bool, true, false, ◌&&◌, List, [], ◌∷◌, ◌++◌, map, length, take, drop, get_or}
 use Rattle.std.proofs.Math.Option.{Option, none, some}
 use Rattle.meaning.specs.Sizes.{ROOMS-BYTES, SETTINGS-BYTES, CONTENT-BYTES, RULE-BODY, RULES-AT, ROOMS-AT, SETTINGS-AT, SETTINGS-END, SETS-AT, CONTENT-AT, COUNT-AT, SET-WIDTH, RULE-WIDTH}
-use Rattle.meaning.specs.Basics.{if◌then◌else◌, is_zero, word, word_bytes, part}
+use Rattle.meaning.specs.Basics.{is_zero, word, word_bytes, part}
+use Rattle.std.specs.Prelude.{if◌then◌else◌}
 use Rattle.meaning.specs.Settings.{Rooms, rooms_of, bytes_needed}
 use Rattle.meaning.specs.Rules.{Rule}
 use Rattle.meaning.specs.Plan.{Plan, rooms_in}

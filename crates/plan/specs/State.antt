@@ -2,7 +2,8 @@
 use Rattle.std.specs.Prelude.{ℕ, Bool, List, [], ◌∷◌, ◌++◌, length, take, drop, leb}
 use Rattle.std.proofs.Math.Option.{Option, none, some}
 use Rattle.meaning.specs.Sizes.{SETS-AT}
-use Rattle.meaning.specs.Basics.{if◌then◌else◌, all_of, same_bytes}
+use Rattle.meaning.specs.Basics.{all_of, same_bytes}
+use Rattle.std.specs.Prelude.{if◌then◌else◌}
 use Rattle.meaning.specs.Plan.{Plan, sound}
 use Rattle.plan.specs.Layout.{image, size_of, plan_of}
 

@@ -11,7 +11,8 @@ use lib.Seq.{take-take, take_all, length-take-le}
 use lib.Dec.{T, eqb, ltb, eqb-suc-zero}
 use borrow.Author.Tests.{eq-eqb, ne_eqb, eqb-true, eqb-false, lt-ltb, le-ltb}
 use Rattle.meaning.specs.Sizes.{PRICE-BODY, PRICE-ROOM, ROWS-AT}
-use Rattle.meaning.specs.Basics.{if◌then◌else◌, all, any, is_zero, word}
+use Rattle.meaning.specs.Basics.{all, any, is_zero, word}
+use Rattle.std.specs.Prelude.{if◌then◌else◌}
 use Rattle.meaning.specs.Refusals.{CUT, RANGE, TAKEN, FULL, Line, first_of}
 use Rattle.meaning.specs.Filters.{filter_of}
 use Rattle.meaning.specs.Rules.{rules_in_order, has_filter, filter_in}

@@ -8,7 +8,8 @@ use native.Mathlib.Omega.{arith}
 use lib.ListN.{length, length-map}
 use lib.Dec.{T, ltb, compare_is_eq}
 use borrow.Author.Tests.{ltb-true, ltb-false, lt-ltb, le-ltb}
-use Rattle.meaning.specs.Basics.{if◌then◌else◌, all, any, begins_with, same_bytes}
+use Rattle.meaning.specs.Basics.{all, any, begins_with, same_bytes}
+use Rattle.std.specs.Prelude.{if◌then◌else◌}
 use Rattle.meaning.specs.Filters.{◌then◌, compare_prefixes, compare_filters, fits_number, rank, is_lt, is_before}
 use Rattle.meaning.specs.Rules.{Rule, filter_in, has_filter, weight, first_largest_from, first_largest, chosen_place, rules_in_order, insert}
 use Rattle.meaning.specs.Prices.{PriceRow, row_passes, row_weight, row_place, is_before_row, rows_in_order, has_prefix, with_row}

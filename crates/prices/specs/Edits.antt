@@ -2,7 +2,8 @@
 use Rattle.std.specs.Prelude.{ℕ, ◌≤◌, ◌≡◌, true, List}
 use Rattle.std.proofs.Math.Option.{some}
 use Rattle.std.proofs.Math.ListN.{get_elem?}
-use Rattle.meaning.specs.Basics.{if◌then◌else◌, is_zero}
+use Rattle.meaning.specs.Basics.{is_zero}
+use Rattle.std.specs.Prelude.{if◌then◌else◌}
 use Rattle.meaning.specs.Refusals.{first_of}
 use Rattle.meaning.specs.Prices.{PriceRow, PRICE-LIMIT, price_in, row_passes, place_lines, with_row}
 use Rattle.prices.specs.Layout.{row_image, prices_image, row_of, rows_in}

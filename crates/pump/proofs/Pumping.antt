@@ -9,7 +9,8 @@ use lib.IntN.{ℤ}
 use lib.ListN.{length, take, drop, length-append, length-drop}
 use lib.Seq.{take_at, drop_at, take-add, drop-drop, drop-append-le, length-take-le}
 use borrow.Rule.Slice.PartMut.{mid_of, put_mid}
-use Rattle.meaning.specs.Basics.{if◌then◌else◌, written_over}
+use Rattle.meaning.specs.Basics.{written_over}
+use Rattle.std.specs.Prelude.{if◌then◌else◌}
 use Rattle.buffer.proofs.ListLaws.{rest_is, rest_back}
 use Rattle.blocks.proofs.OverLaws.{length_over}
 use Rattle.prices.proofs.ImageLaws.{in_range_is}

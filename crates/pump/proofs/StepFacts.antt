@@ -8,7 +8,8 @@ use native.Mathlib.Omega.{arith}
 use lib.ListN.{length, take, get_elem?, length-append}
 use lib.Dec.{eqb}
 use Rattle.meaning.specs.Sizes.{DIGIT-ROOM, DISTRICTS}
-use Rattle.meaning.specs.Basics.{if◌then◌else◌, is_zero, word}
+use Rattle.meaning.specs.Basics.{is_zero, word}
+use Rattle.std.specs.Prelude.{if◌then◌else◌}
 use Rattle.meaning.specs.Refusals.{PLAN}
 use Rattle.meaning.specs.Plan.{Plan}
 use Rattle.meaning.specs.Answer.{Answer, answer}

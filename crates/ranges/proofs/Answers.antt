@@ -2,7 +2,7 @@
 use Prim.Native.Nat.{ℕ}
 use mathlib.Core.Path.{◌≡◌, refl}
 use mathlib.Core.Bool.{Bool, true, false}
-use Rattle.meaning.specs.Basics.{if◌then◌else◌}
+use Rattle.std.specs.Prelude.{if◌then◌else◌}
 
 pub chosen : (test : ℕ → ℕ → Bool) (k : Bool) (a a' b b' : ℕ) → test (if k then a else a') (if k then b else b') ≡ (if k then test a b else test a' b')
 chosen test true a a' b b' = refl

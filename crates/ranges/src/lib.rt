@@ -3,7 +3,8 @@
 
 ghost use Rattle.std.specs.Prelude.{◌≡◌, length};
 ghost use Rattle.meaning.specs.Sizes.{ROOMS-BYTES, SETTINGS-BYTES, LOOKUP-BYTES, NUMBER-BYTES};
-ghost use Rattle.meaning.specs.Basics.{if◌then◌else◌, all, within};
+ghost use Rattle.meaning.specs.Basics.{all, within};
+ghost use Rattle.std.specs.Prelude.{if◌then◌else◌};
 ghost use Rattle.meaning.specs.Settings.{is_class, rooms_in_range, settings_in_range, entity_in_range, asd_or_grn_in_range, lookup_in_range, number_in_range, dialled_in_range};
 ghost use Rattle.blocks.specs.Places.{mask_table};
 

@@ -8,7 +8,8 @@ use native.Mathlib.Omega.{arith}
 use native.Mathlib.Nat.{le_of_suc-le-suc}
 use lib.ListN.{length, get_or, set}
 use lib.Dec.{T}
-use Rattle.meaning.specs.Basics.{if◌then◌else◌, any, count, is_some}
+use Rattle.meaning.specs.Basics.{any, count, is_some}
+use Rattle.std.specs.Prelude.{if◌then◌else◌}
 use Rattle.meaning.specs.Refusals.{first_of}
 use Rattle.meaning.specs.Filters.{Filter, filter_of, is_before}
 use Rattle.meaning.specs.Rules.{Rule, filter_in, names, has_filter, set_named, rules_in_order, insert, rename, without}

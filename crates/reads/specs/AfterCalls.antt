@@ -2,7 +2,8 @@
 use Rattle.std.specs.Prelude.{ℕ, ◌+◌, ◌-◌, ◌≡◌, Bool, true, false, not, List, [], ◌∷◌, length, leb, ltb, eqb}
 use Rattle.std.proofs.Math.Option.{Option, none, some}
 use Rattle.meaning.specs.Sizes.{SET-BODY}
-use Rattle.meaning.specs.Basics.{if◌then◌else◌, is_some}
+use Rattle.meaning.specs.Basics.{is_some}
+use Rattle.std.specs.Prelude.{if◌then◌else◌}
 use Rattle.meaning.specs.Refusals.{ROOM, RANGE, ABSENT, first_of}
 use Rattle.meaning.specs.Settings.{rooms_of}
 use Rattle.meaning.specs.Filters.{filter_of}

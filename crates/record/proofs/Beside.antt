@@ -10,7 +10,8 @@ use lib.ListN.{length}
 use lib.Dec.{eqb}
 use borrow.Author.Tests.{leb-false, ne_eqb, eq-eqb, eqb-false}
 use Rattle.meaning.specs.Sizes.{DIGIT-ROOM}
-use Rattle.meaning.specs.Basics.{if◌then◌else◌, word, written_over}
+use Rattle.meaning.specs.Basics.{word, written_over}
+use Rattle.std.specs.Prelude.{if◌then◌else◌}
 use Rattle.meaning.specs.Plan.{Plan}
 use Rattle.meaning.specs.Calls.{REMOVE-RULE, NUMBER, REFS, LIST, CALL, PRICE, LOSSES, is_call, call_of, refusal, after}
 use Rattle.meaning.specs.Answer.{answer}

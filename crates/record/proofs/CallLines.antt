@@ -8,7 +8,8 @@ use native.Mathlib.Omega.{arith}
 use lib.ListN.{length}
 use lib.Dec.{eqb}
 use borrow.Author.Tests.{leb-true, ne_eqb, eq-eqb}
-use Rattle.meaning.specs.Basics.{if◌then◌else◌, is_zero, is_some, written_over}
+use Rattle.meaning.specs.Basics.{is_zero, is_some, written_over}
+use Rattle.std.specs.Prelude.{if◌then◌else◌}
 use Rattle.meaning.specs.Plan.{Plan}
 use Rattle.meaning.specs.Calls.{Operation, Call, REMOVE-RULE, LIST, LOSSES, is_call, body_length, body_of, refusal, made, after, operation_of, call_of}
 use Rattle.meaning.specs.Records.{accepted_line, lacks_program_room, House, with_plan, record_text, record_house}

@@ -11,7 +11,8 @@ use lib.Seq.{take_at}
 use lib.Dec.{T}
 use borrow.Author.Tests.{leb-false}
 use Rattle.meaning.specs.Sizes.{SET-NUMBER-BYTES, PREFIX-AT, FILTER-BYTES, NUMBER-BYTES, DIGIT-ROOM}
-use Rattle.meaning.specs.Basics.{if◌then◌else◌, count, is_some, word, part, padded, digits_in_range}
+use Rattle.meaning.specs.Basics.{count, is_some, word, part, padded, digits_in_range}
+use Rattle.std.specs.Prelude.{if◌then◌else◌}
 use Rattle.meaning.specs.Refusals.{PLAN, RANGE, ABSENT, Line, first_of}
 use Rattle.meaning.specs.Filters.{filter_of, filter_ranges, filter_in_range}
 use Rattle.meaning.specs.Rules.{Rule, filter_in, names}

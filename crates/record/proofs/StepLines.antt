@@ -9,7 +9,8 @@ use lib.Seq.{take_at, length-take-le}
 use lib.Dec.{ltb, leb-suc-suc}
 use borrow.Author.Tests.{lt-ltb, le-ltb, lt-leb, le-leb, eq-eqb, ne_eqb}
 use Rattle.meaning.specs.Sizes.{LEDGER-NUMBERS, RUN-BYTES}
-use Rattle.meaning.specs.Basics.{if◌then◌else◌, written_over}
+use Rattle.meaning.specs.Basics.{written_over}
+use Rattle.std.specs.Prelude.{if◌then◌else◌}
 use Rattle.meaning.specs.Refusals.{KIND, CUT}
 use Rattle.meaning.specs.Calls.{is_kind, body_length}
 use Rattle.meaning.specs.Ledger.{ledger_of, ledger_in_range}

@@ -10,7 +10,7 @@ use lib.ListN.{length, take, drop, length-append, length-drop, length-map, get_o
 use lib.Dec.{ltb, eqb}
 use borrow.Author.Tests.{ltb-true, ltb-false, le-ltb, leb-true, leb-false}
 use Rattle.meaning.specs.Sizes.{LONGEST-RECORD, DIGIT-ROOM, PRICES-BYTES, DISTRICTS, LEDGER-NUMBERS}
-use Rattle.meaning.specs.Basics.{if◌then◌else◌}
+use Rattle.std.specs.Prelude.{if◌then◌else◌}
 use Rattle.meaning.specs.Refusals.{KIND, CUT}
 use Rattle.meaning.specs.Settings.{bytes_needed}
 use Rattle.meaning.specs.Plan.{Plan, rooms_in}

@@ -1,7 +1,8 @@
 -- What a step promises, over what is lent to a run: the memory of its plan, its price list and its ledger.
 use Rattle.std.specs.Prelude.{ℕ, ◌+◌, ◌≤◌, ◌≡◌, Bool, true, false, ◌||◌, List, [], ◌∷◌, ◌++◌, ℤ, pos, length, take, drop, leb, eqb}
 use Rattle.meaning.specs.Sizes.{PRICES-BYTES, LEDGER-NUMBERS, RUN-BYTES}
-use Rattle.meaning.specs.Basics.{if◌then◌else◌, all_of, is_zero, written_over}
+use Rattle.meaning.specs.Basics.{all_of, is_zero, written_over}
+use Rattle.std.specs.Prelude.{if◌then◌else◌}
 use Rattle.meaning.specs.Refusals.{CUT}
 use Rattle.meaning.specs.Calls.{OPEN-PLAN}
 use Rattle.meaning.specs.Ledger.{ledger_of, totals_of, empty_ledger, ledger_in_range}

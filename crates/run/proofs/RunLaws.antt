@@ -12,7 +12,8 @@ use lib.Seq.{get_or-take, take_all}
 use lib.Dec.{T, ltb, eqb, lit<}
 use borrow.Author.Tests.{lt-ltb, le-ltb, ltb-false, ne_eqb, eqb-true, eqb-false}
 use Rattle.meaning.specs.Sizes.{ROOMS-BYTES, OPENING-BYTES, RUN-SETS, RUN-RULES, RUN-BYTES}
-use Rattle.meaning.specs.Basics.{if◌then◌else◌, is_zero, word}
+use Rattle.meaning.specs.Basics.{is_zero, word}
+use Rattle.std.specs.Prelude.{if◌then◌else◌}
 use Rattle.meaning.specs.Refusals.{PLAN, first_of}
 use Rattle.meaning.specs.Settings.{rooms_of, bytes_needed}
 use Rattle.meaning.specs.Plan.{Plan}

@@ -9,7 +9,8 @@ use lib.ListN.{length, take, drop, get_or, set}
 use lib.Seq.{take-suc-set, drop-set-lt}
 use lib.Dec.{eqb}
 use borrow.Author.Tests.{ne_eqb, le-leb, lt-ltb}
-use Rattle.meaning.specs.Basics.{if◌then◌else◌, is_empty, contains}
+use Rattle.meaning.specs.Basics.{is_empty, contains}
+use Rattle.std.specs.Prelude.{if◌then◌else◌}
 use Rattle.meaning.specs.Settings.{Settings, Lookup}
 use Rattle.meaning.specs.Actions.{RN, INPRTG, CDPNNP, ASDLKUP, GRNLKUP, CDIAL}
 use Rattle.meaning.specs.Services.{Stage, at_start, unsuccessful, inprtg, rn_set, cdpnnp, asdlkup, grnlkup, cdial, carry_out}

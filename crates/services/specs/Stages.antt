@@ -1,7 +1,8 @@
 -- What the service stage's struct says of a stage of document 01, and what its functions promise.
 use Rattle.std.specs.Prelude.{ℕ, ◌≤◌, ◌≡◌, Bool, false, ◌&&◌, ◌||◌, List, [], length, take, get_or, leb, ltb, eqb}
 use Rattle.meaning.specs.Sizes.{SETTINGS-BYTES, LOOKUP-BYTES}
-use Rattle.meaning.specs.Basics.{if◌then◌else◌, written_over}
+use Rattle.meaning.specs.Basics.{written_over}
+use Rattle.std.specs.Prelude.{if◌then◌else◌}
 use Rattle.meaning.specs.Settings.{Settings, Lookup, settings_of, lookup_of}
 use Rattle.meaning.specs.Actions.{INPRTG, CDPNNP, ASDLKUP, GRNLKUP, CDIAL, codes_of}
 use Rattle.meaning.specs.Services.{Stage, at_start, rn_set, serve, eight_places}

@@ -8,7 +8,8 @@ use lib.ListN.{length, take, drop, length-drop, take-append-drop}
 use lib.Seq.{drop-append-le, length-take-le}
 use borrow.Rule.Slice.PartMut.{mid_of, put_mid, post_of, Post-is}
 use Rattle.meaning.specs.Sizes.{LONGEST-RECORD}
-use Rattle.meaning.specs.Basics.{if◌then◌else◌, written_over}
+use Rattle.meaning.specs.Basics.{written_over}
+use Rattle.std.specs.Prelude.{if◌then◌else◌}
 use Rattle.buffer.proofs.ListLaws.{drop_take}
 use Rattle.record.specs.Turns.{is_whole}
 use Rattle.record.proofs.Steps.{not_whole_few}

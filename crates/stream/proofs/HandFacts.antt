@@ -7,7 +7,8 @@ use mathlib.Core.List.{List}
 use native.Mathlib.Omega.{arith}
 use lib.ListN.{length, take, drop, length-append, length-drop}
 use lib.Seq.{take_at, length-take-le}
-use Rattle.meaning.specs.Basics.{if◌then◌else◌, written_over}
+use Rattle.meaning.specs.Basics.{written_over}
+use Rattle.std.specs.Prelude.{if◌then◌else◌}
 use Rattle.record.specs.Turns.{is_whole}
 use Rattle.descriptors.specs.Moves.{FillPromise}
 use Rattle.descriptors.proofs.MoveLaws.{Got, got}

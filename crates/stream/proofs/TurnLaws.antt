@@ -10,7 +10,7 @@ use lib.ListN.{length, take, drop, length-drop, take-append-drop, drop_of_length
 use lib.Dec.{ltb}
 use borrow.Author.Tests.{ltb-true, ltb-false}
 use lib.Seq.{take-take, drop-append-le, length-take-le}
-use Rattle.meaning.specs.Basics.{if◌then◌else◌}
+use Rattle.std.specs.Prelude.{if◌then◌else◌}
 use Rattle.buffer.proofs.ListLaws.{drop_take}
 use Rattle.text.specs.Writes.{LONGEST}
 use Rattle.record.specs.Turns.{wants, turn, is_whole}

@@ -1,7 +1,8 @@
 -- One turn of a copy: a read behind what is left of the input, or none, steps over what is at hand, and a write of what they wrote.
 use Rattle.std.specs.Prelude.{ℕ, ◌+◌, ◌-◌, ◌≤◌, ◌≡◌, ◌⊎◌, Bool, true, false, not, List, length, take, drop}
 use Rattle.meaning.specs.Sizes.{LONGEST-RECORD}
-use Rattle.meaning.specs.Basics.{if◌then◌else◌, written_over}
+use Rattle.meaning.specs.Basics.{written_over}
+use Rattle.std.specs.Prelude.{if◌then◌else◌}
 use Rattle.text.specs.Writes.{LONGEST}
 use Rattle.record.specs.Turns.{is_whole}
 use Rattle.record.specs.Promises.{Lent, InHouse}

@@ -8,7 +8,8 @@ use lib.Bits.{bit_and, and_block, and_mask, and_le_r}
 use lib.Dec.{T, ltb, leb→le}
 use lib.ListN.{length, replicate, length-map}
 use borrow.Author.Tests.{ltb-true, ltb-false}
-use Rattle.meaning.specs.Basics.{if◌then◌else◌, all, is_digit}
+use Rattle.meaning.specs.Basics.{all, is_digit}
+use Rattle.std.specs.Prelude.{if◌then◌else◌}
 use Rattle.meaning.specs.Records.{digit_text}
 use Rattle.meaning.proofs.Tests.{and_left, and_right}
 use Rattle.blocks.specs.Endian.{little_endian, bytes_of}

@@ -1,0 +1,9 @@
+-- What is left, and what is supplied behind it.
+use borrow.Author.Rules.{rules}
+use Rattle.stream.specs.Turnings.{SupplyPromise}
+use Rattle.stream.proofs.gather.Goals as goal
+
+pub returns : goal.returns
+returns c = let t = c.settle-left in
+    let s : SupplyPromise c.args.rest.source t.result t.new.input c.supply.new.left c.supply.result = c.supply.ensures in
+    rw (t.ensures.0, t.ensures.1) at s
