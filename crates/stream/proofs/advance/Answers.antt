@@ -10,7 +10,7 @@ use Rattle.stream.proofs.TurnLaws.{steps_at_hand, may_conclude}
 use Rattle.stream.proofs.advance.Goals as goal
 
 pub returns-then-failed : goal.returns-then-failed
-returns-then-failed c = let a = c.args in
+returns-then-failed g c = let a = c.args in
     inl
     (record {
       failed = sym c.failed.ensures ∙ c.if-failed.true;
@@ -20,13 +20,13 @@ returns-then-failed c = let a = c.args in
     })
 
 pub pump-p-requires : goal.pump-p-requires
-pump-p-requires c = c.requires.in_house
+pump-p-requires g c = c.requires.in_house
 
 pub conclude-requires : goal.conclude-requires
-conclude-requires c = may_conclude c.args.input.now c.args.h _ c.requires c.pump-p.ensures
+conclude-requires g c = may_conclude c.args.input.now c.args.h _ c.requires c.pump-p.ensures
 
 pub returns : goal.returns
-returns c = let p = c.pump-p in
+returns g c = let p = c.pump-p in
     inr
     (record {
       read = sym c.failed.ensures ∙ c.if-failed.false;

@@ -12,7 +12,7 @@ use Rattle.stream.specs.declared.Turned.TheVariants.{Goes}
 use Rattle.stream.proofs.copy.Given as goal
 
 abbrev pub invariant-loop-turns : goal.invariant-loop-turns
-invariant-loop-turns l = Copying (to_z w32 l.initial.reader) (to_z w32 l.initial.writer) (length l.from) (length l.to) l.initial.prices l.initial.districts (lent l.initial.rest l.initial.turns l.reader l.prices.run.whole) l.writer l.plan l.prices l.districts
+invariant-loop-turns g l = Copying l.from l.to (length l.initial.plan) (length l.initial.prices) l.initial.input l.initial.output (lent l.plan l.prices l.districts l.rest.run.whole) l.input l.output l.rest l.turns
 
 abbrev pub decreases-loop-turns : goal.decreases-loop-turns
-decreases-loop-turns l = l.districts
+decreases-loop-turns g l = l.turns

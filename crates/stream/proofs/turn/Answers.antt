@@ -4,7 +4,7 @@ use Rattle.stream.proofs.TurnLaws.{may_advance}
 use Rattle.stream.proofs.turn.Goals as goal
 
 pub advance-requires : goal.advance-requires
-advance-requires c = may_advance _ _ _ c.requires c.gather-h.ensures
+advance-requires g c = may_advance _ _ _ c.requires c.gather-h.ensures
 
 pub returns : goal.returns
-returns c = let g = c.gather-h in record { hand = g.result; gathers = g.ensures; so = c.advance.ensures }
+returns g c = let g = c.gather-h in record { hand = g.result; gathers = g.ensures; so = c.advance.ensures }
