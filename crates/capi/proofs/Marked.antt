@@ -131,6 +131,7 @@ by_calls (c ∷ cs) [] q result t e f = absurd t
 by_calls (c ∷ cs) (n ∷ numbers) q result t e f = by_operation c.operation c.body cs n numbers q result t e f
 
 every_row : (rs : List Row) → T (all opens_first rs) → (r : Row) → Memᴰ r rs → T (opens_first r)
+every_row [] t r m = elim m [ ]
 every_row (x ∷ xs) t r (Memᴰ.head e) = rw e (and_left (opens_first x) (all opens_first xs) t)
 every_row (x ∷ xs) t r (Memᴰ.tail m) = every_row xs (and_right (opens_first x) (all opens_first xs) t) r m
 

@@ -1,4 +1,6 @@
 // The calls for C and Rust, over numbers and byte slices: each promises what the call that it stands for promises.
+#![tactic(auto)]
+
 ghost use Rattle.std.specs.Prelude.{◌≡◌, length};
 ghost use Rattle.meaning.specs.Calls.{open_plan, add_set, replace_set, remove_set, add_rule, change_rule, remove_rule};
 ghost use Rattle.meaning.specs.Answers.{count_of, rule_listed, compared_of, loss_given};

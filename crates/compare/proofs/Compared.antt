@@ -22,7 +22,7 @@ use Rattle.meaning.specs.declared.Refusal.TheVariants.{Plan as NoPlan, Room}
 use Rattle.meaning.specs.declared.Compared.{Compared}
 use Rattle.meaning.specs.declared.Compared.TheVariants.{Differences, Refused as NotCompared}
 use Rattle.meaning.proofs.Tests.{and_left, and_right}
-use Rattle.meaning.proofs.Telling.{passed}
+use Rattle.meaning.proofs.Telling.{told, passed}
 use Rattle.meaning.proofs.Soundness.{Sound, sound_parts}
 use Rattle.meaning.proofs.Merged.{by_order}
 use Rattle.buffer.specs.Slots.{flat, Wide}
@@ -123,8 +123,8 @@ module _ (left right out : List ℕ) where
   right_unsound e f = plan_refused (rw (state_some left e, state_none right f))
 
   -- both were asked about
-  pub examined : {a b : Bool} → a ≡ sound_of left → not a ≡ false → b ≡ sound_of right → not b ≡ false → BothSound left right
-  examined a-is a-passed b-is b-passed = record { left_sound = passed a-is a-passed; right_sound = passed b-is b-passed }
+  pub examined : {a b : Bool} → a ≡ sound_of left → a ≡ true → b ≡ sound_of right → b ≡ true → BothSound left right
+  examined a-is a-passed b-is b-passed = record { left_sound = told a-is a-passed; right_sound = told b-is b-passed }
 
   pub both_sound : BothSound left right → (after : List ℕ) (r : Compared)
       → GivesComparison (comparison (some (plan_of left)) (some (plan_of right)) (length out)) out after r → ComparePromise left right out after r
@@ -145,7 +145,7 @@ state_sound m p e = go (sound_of m) refl
 
 pub room_exactly : RoomExactly
 room_exactly left right out after r p q s t promise =
-    (λ e. rw (sym bytes) (refused (ltb (length out) need) refl (sym given ∙ e)), λ h. given ∙ rw (lt-ltb (length out) need (rw bytes at h)))
+    (λ e. rw bytes (refused (ltb (length out) need) refl (sym given ∙ e)), λ h. given ∙ rw (lt-ltb (length out) need (rw bytes at h)))
   where
     need : ℕ
     need = DIFFERENCE-BYTES * length (differences p q)

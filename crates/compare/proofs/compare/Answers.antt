@@ -13,9 +13,9 @@ returns-then-not-sound-2 c = let a = c.args in
     right_unsound a.left.now a.right.now a.out.now (told c.sound.ensures c.if-not-sound.false) (told c.sound-2.ensures c.if-not-sound-2.true)
 
 pub compare_known-requires : goal.compare_known-requires
-compare_known-requires c = examined c.sound.ensures c.if-not-sound.false c.sound-2.ensures c.if-not-sound-2.false
+compare_known-requires c = examined c.args.left.now c.args.right.now c.args.out.now c.sound.ensures c.if-not-sound.false c.sound-2.ensures c.if-not-sound-2.false
 
 pub returns : goal.returns
 returns c = let a = c.args in
     both_sound a.left.now a.right.now a.out.now
-    (examined c.sound.ensures c.if-not-sound.false c.sound-2.ensures c.if-not-sound-2.false) _ _ c.compare_known.ensures
+    (examined c.args.left.now c.args.right.now c.args.out.now c.sound.ensures c.if-not-sound.false c.sound-2.ensures c.if-not-sound-2.false) _ _ c.compare_known.ensures

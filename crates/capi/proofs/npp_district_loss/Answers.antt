@@ -1,0 +1,8 @@
+-- The fields of the loss that is read.
+use mathlib.Core.Path.{ap, ◌∙◌}
+use borrow.Author.Rules.{rules}
+use Rattle.capi.specs.Given.{loss_as}
+use Rattle.capi.proofs.npp_district_loss.Goals as goal
+
+pub returns : goal.returns
+returns c = c.loss_fields.ensures ∙ ap loss_as c.district_loss.ensures
