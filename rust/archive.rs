@@ -1,4 +1,4 @@
-//! Where rt leaves a static library, for the build scripts that cargo runs: here, in agreement/ and in
+//! Where tools/build leaves a static library, for the build scripts that cargo runs: here, in agreement/ and in
 //! bench/.
 
 use std::env;
@@ -14,7 +14,7 @@ pub fn of(name: &str, variable: &str) -> PathBuf {
     println!("cargo::rerun-if-env-changed={variable}");
     println!("cargo::rerun-if-changed={}", path.display());
     path.canonicalize().unwrap_or_else(|_| {
-        println!("cargo::error={file} is missing; 'rt staticlib {name}' builds it");
+        println!("cargo::error={file} is missing; 'tools/build {name}' builds it");
         exit(0);
     })
 }

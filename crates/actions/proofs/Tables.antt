@@ -1,8 +1,8 @@
 -- Tables: an arm of a `match`, and what stands behind a table's end; and the tests that `search` knows.
-use Prim.Native.Nat.{ℕ, suc, ◌≤◌, ◌<◌}
+use Prim.Native.Nat.{ℕ, suc, ◌≤◌}
 use native.Mathlib.Omega.{arith}
 use mathlib.Core.Path.{◌≡◌, sym}
-use mathlib.Core.Bool.{Bool, ◌||◌, not}
+use mathlib.Core.Bool.{◌||◌, not}
 use lib.Dec.{T, ltb, eqb, eqb→eq}
 use borrow.Author.Rules.{rules}
 use borrow.Author.Tests.{eq-eqb, ne_eqb, le-leb, lt-leb, le-ltb, lt-ltb}

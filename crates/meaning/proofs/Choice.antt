@@ -1,12 +1,12 @@
 -- The rule chosen is the one that document 01 describes, and no other is: over any rules in listing order, for any number.
-use Prim.Native.Nat.{ℕ, zero, suc, ◌+◌, ◌*◌, ◌≤◌, ◌<◌}
-use mathlib.Core.Path.{◌≡◌, refl, ap, sym, ◌∙◌, subst}
+use Prim.Native.Nat.{ℕ, zero, suc, ◌+◌, ◌≤◌, ◌<◌}
+use mathlib.Core.Path.{◌≡◌, refl, ap, sym, ◌∙◌}
 use mathlib.Core.Logic.{◌≢◌, ◌⊎◌, inl, inr}
 use mathlib.Core.Bool.{Bool, true, false, ◌&&◌}
 use mathlib.Core.List.{List, [], ◌∷◌, map, Memᴰ}
 use mathlib.Core.Option.{Option, none, some}
 use native.Mathlib.Omega.{arith}
-use lib.ListN.{length, take, get_elem?}
+use lib.ListN.{length, take}
 use lib.Dec.{T, eqb, ltb, eqb→eq}
 use borrow.Author.Tests.{ltb-true, ltb-false}
 use Rattle.meaning.specs.Basics.{any, is_some, begins_with}
@@ -15,7 +15,7 @@ use Rattle.meaning.specs.Filters.{Filter, length_fits, fits_number, stated, rank
 use Rattle.meaning.specs.Rules.{Rule, filter_in, weight, first_largest, chosen_place, rule_at, chosen, rules_in_order}
 use Rattle.meaning.specs.Choice.{LessSpecific, shorter_prefix, wildcard_length, IsChoice, NoneFits}
 use Rattle.meaning.proofs.Tests.{is_true, true_is, and_left, and_right, any_mem}
-use Rattle.meaning.proofs.Largest.{AtMost, Largest, Found, first_largest_lem, place_mem}
+use Rattle.meaning.proofs.Largest.{AtMost, Found, first_largest_lem, place_mem}
 use Rattle.meaning.proofs.RuleLists.{one_rule}
 
 -- TWO FILTERS THAT FIT ONE NUMBER

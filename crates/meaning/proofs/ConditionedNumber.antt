@@ -1,21 +1,20 @@
 -- The conditioned number has 1 to 35 digits: the stretches of two values do not overlap, and a country code has at most 3 digits.
-use Prim.Native.Nat.{ℕ, zero, suc, ◌+◌, ◌-◌, ◌≤◌, ◌<◌}
+use Prim.Native.Nat.{ℕ, ◌+◌, ◌-◌, ◌≤◌}
 use mathlib.Core.Path.{◌≡◌, refl, ap, sym, ◌∙◌}
-use mathlib.Core.Logic.{◌≢◌, ◌⊎◌, inl, inr}
-use mathlib.Core.Bool.{Bool, true, false, ◌&&◌, ◌||◌, not}
+use mathlib.Core.Logic.{◌≢◌}
+use mathlib.Core.Bool.{Bool, true, false, ◌||◌, not}
 use mathlib.Core.List.{List, [], ◌∷◌, ◌++◌}
 use native.Mathlib.Omega.{arith}
-use lib.ListN.{length, take, drop, length-append, length-drop}
-use lib.Seq.{length-take-le}
+use lib.ListN.{length, length-append}
 use lib.Dec.{T, leb, eqb, eqb→eq, leb→le}
-use borrow.Author.Tests.{eqb-true, eqb-false, leb-true, leb-false, le-leb, eq-eqb, ne_eqb}
-use Rattle.meaning.specs.Basics.{all, any, all_of, is_empty, is_zero, within, part}
+use borrow.Author.Tests.{eqb-true, le-leb, ne_eqb}
+use Rattle.meaning.specs.Basics.{all, any, is_empty, is_zero, within}
 use Rattle.std.specs.Prelude.{if◌then◌else◌}
-use Rattle.meaning.specs.Actions.{CC, AC, SN, DN, ZN, IGN, LAST-COUNTED, SNX, ZNX, FPFX, CCDEF, CA, is_ign, is_x, is_fpfx, is_ccdef, value_of, sets_value, most_of, ca_in_range}
+use Rattle.meaning.specs.Actions.{CC, AC, SN, DN, ZN, IGN, LAST-COUNTED, SNX, ZNX, FPFX, CCDEF, CA, is_ccdef, value_of, sets_value, most_of, ca_in_range}
 use Rattle.meaning.specs.Groups.{is_set, one_format, format_stands}
 use Rattle.meaning.specs.Conditioning.{Stretch, stretch_of, digits_at, value_from, conditioned_from}
 use Rattle.meaning.specs.Stretches.{stretch_at, Covers, covered, fixed, ignored, matched, all_left, takes_none}
-use Rattle.meaning.proofs.Tests.{is_true, true_is, is_false, false_is, and_left, and_right, or_other, or_left_false, or_right_false, all_below, at_below, part_length}
+use Rattle.meaning.proofs.Tests.{true_is, is_false, false_is, and_left, and_right, or_left_false, or_right_false, all_below, at_below, part_length}
 use Rattle.meaning.proofs.Stretches.{ranged, ranged_below}
 
 -- ONE VALUE, AND TWO

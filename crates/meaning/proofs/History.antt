@@ -1,29 +1,29 @@
 -- Demand 3 over the definitions: soundness is kept by every call, refused or accepted, and carrying a plan through the calls agrees with looking back.
-use Prim.Native.Nat.{ℕ, zero, suc, ◌+◌, ◌≤◌, ◌<◌}
+use Prim.Native.Nat.{ℕ}
 use mathlib.Core.Path.{◌≡◌, refl, ap, sym, subst, ◌∙◌}
 use mathlib.Core.Logic.{◌↔◌, ◌⊎◌, inl, inr}
-use mathlib.Core.Bool.{Bool, true, false, ◌&&◌, ◌||◌, not}
-use mathlib.Core.List.{List, [], ◌∷◌, map, Memᴰ}
+use mathlib.Core.Bool.{Bool, true, false, not}
+use mathlib.Core.List.{List, [], ◌∷◌, map}
 use mathlib.Core.Option.{Option, none, some}
 use native.Mathlib.Omega.{arith}
-use lib.ListN.{length, get_or, get_or-eq_default}
+use lib.ListN.{length, get_or-eq_default}
 use lib.Dec.{T, eqb, leb}
 use borrow.Author.Tests.{eqb-true, leb-true}
-use Rattle.meaning.specs.Basics.{all, any, count, is_zero, is_some}
+use Rattle.meaning.specs.Basics.{all, any, count, is_some}
 use Rattle.std.specs.Prelude.{if◌then◌else◌}
 use Rattle.meaning.specs.Refusals.{CUT, PLAN, IN-USE, Line, first_of}
-use Rattle.meaning.specs.Settings.{Rooms, rooms_of}
-use Rattle.meaning.specs.Filters.{Filter, filter_of}
-use Rattle.meaning.specs.Rules.{Rule, filter_in, names, set_named}
-use Rattle.meaning.specs.Plan.{Plan, held, referrers, fresh, sound}
-use Rattle.meaning.specs.Reads.{over_room, Listed, listing, listed}
+use Rattle.meaning.specs.Settings.{rooms_of}
+use Rattle.meaning.specs.Filters.{Filter}
+use Rattle.meaning.specs.Rules.{names, set_named}
+use Rattle.meaning.specs.Plan.{Plan, held, referrers, fresh}
+use Rattle.meaning.specs.Reads.{over_room, listing, listed}
 use Rattle.meaning.specs.Calls.{Operation, open_plan, add_set, replace_set, remove_set, add_rule, change_rule, remove_rule, Call, is_cut, body_of, opened_rooms, opened_settings, set_number, opening_lines, add_set_lines, replace_set_lines, remove_set_lines, add_rule_lines, change_rule_lines, remove_rule_lines, lines_of, refusal, made, is_accepted, after, put_in_from, put_in, refusals_from}
 use Rattle.meaning.specs.LookBack.{accepted_from, accepted, opening_after, last_opening, content_after, last_content, set_after, last_set}
-use Rattle.meaning.specs.History.{rising, removal, PutIn, EveryList, FromOpening, EveryOpenedList, ListsExactly}
-use Rattle.meaning.proofs.Tests.{is_true, is_false, true_is, false_is, and_left, and_right, and_both, none_counted}
+use Rattle.meaning.specs.History.{rising, removal, PutIn, EveryList, EveryOpenedList, ListsExactly}
+use Rattle.meaning.proofs.Tests.{is_true, is_false, and_left, and_right, and_both, none_counted}
 use Rattle.meaning.proofs.CallKinds.{is_opening, Asks, opens, changes, asks, plan_lines}
 use Rattle.meaning.proofs.Soundness.{Sound, sound_of_lem, SoundIf, accepted_passed, accepted_sound, names_held}
-use Rattle.meaning.proofs.ReadBack.{held_in, set_in, ReadsBack, reads_back, empty_slots}
+use Rattle.meaning.proofs.ReadBack.{held_in, set_in, reads_back, empty_slots}
 use Rattle.meaning.proofs.Listings.{rising_listed, one_list, lists_named, distinct_filters}
 
 -- NO CALL OVER A PLAN DRAWS PLAN: none of its checks has that number

@@ -1,23 +1,22 @@
 -- The listing: strictly rising, it holds a filter and a set number exactly if that filter's rule names that set, and no other list does.
 use Prim.Native.Nat.{ℕ, zero, suc, ◌<◌, Ordering}
 use mathlib.Core.Path.{◌≡◌, refl, ap, ap₂, sym, subst, ◌∙◌}
-use mathlib.Core.Logic.{◌↔◌, ◌≢◌, ◌⊎◌, inl, inr}
-use mathlib.Core.Bool.{Bool, true, false, ◌&&◌}
+use mathlib.Core.Logic.{◌≢◌, ◌⊎◌, inl, inr}
+use mathlib.Core.Bool.{Bool, true, false}
 use mathlib.Core.List.Memᴰ
 use mathlib.Core.List.{List, [], ◌∷◌, map, Memᴰ}
-use mathlib.Core.Option.{Option, none, some, some-injective}
+use mathlib.Core.Option.{some, some-injective}
 use native.Mathlib.Omega.{arith}
 use native.Mathlib.Nat.{le_of_suc-le-suc}
 use lib.ListN.{length, get_or}
-use lib.Dec.{T, T_not}
+use lib.Dec.{T}
 use Rattle.meaning.specs.Basics.{all}
 use Rattle.std.specs.Prelude.{if◌then◌else◌}
-use Rattle.meaning.specs.Filters.{Filter, is_lt, is_before, is_same, compare_filters}
+use Rattle.meaning.specs.Filters.{Filter, is_lt, is_before, compare_filters}
 use Rattle.meaning.specs.Rules.{Rule, filter_in, has_filter, set_named, rules_in_order}
-use Rattle.meaning.specs.Plan.{Plan}
-use Rattle.meaning.specs.Reads.{Listed, listed, listing}
+use Rattle.meaning.specs.Reads.{Listed, listed}
 use Rattle.meaning.specs.History.{rising, pair_of, ListsExactly, no_rule}
-use Rattle.meaning.proofs.ListingOrder.{flip, Lawful, filters}
+use Rattle.meaning.proofs.ListingOrder.{flip, filters}
 use Rattle.meaning.proofs.Tests.{true_is, is_true, and_left, and_right, and_both, all_mem, all_place}
 use Rattle.meaning.proofs.RuleLists.{before, same_filter, filter_same, not_before_self}
 

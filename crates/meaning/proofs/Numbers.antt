@@ -1,31 +1,30 @@
 -- Over every sound plan, a number whose chosen rule has conditioning actions is conditioned as demand 3 says.
-use Prim.Native.Nat.{ℕ, zero, suc, ◌+◌, ◌≤◌, ◌<◌}
+use Prim.Native.Nat.{ℕ, ◌≤◌, ◌<◌}
 use mathlib.Core.Path.{◌≡◌, refl, ap, sym, subst, ◌∙◌}
-use mathlib.Core.Logic.{◌↔◌, ◌≢◌, ◌⊎◌, inl, inr}
-use mathlib.Core.Bool.{Bool, true, false, ◌&&◌, ◌||◌, not}
+use mathlib.Core.Logic.{◌≢◌, inl, inr}
+use mathlib.Core.Bool.{Bool, true, false, ◌&&◌}
 use mathlib.Core.List.{List, [], ◌∷◌, Memᴰ}
 use mathlib.Core.Option.{Option, none, some}
 use native.Mathlib.Omega.{arith}
-use lib.ListN.{length, take, drop, get_or, length-take, get_or-eq_default}
-use lib.Dec.{T, leb, ltb, leb→le}
-use borrow.Author.Tests.{le-ltb, le-leb, leb-true, leb-false}
+use lib.ListN.{length, take, drop, get_or, length-take}
+use lib.Dec.{T, leb, leb→le}
+use borrow.Author.Tests.{le-ltb, le-leb}
 use Rattle.meaning.specs.Sizes.{DIGIT-ROOM}
-use Rattle.meaning.specs.Basics.{all, any, all_of, is_empty, is_digit, is_zero, within, part, digits_of, digits_in_range}
+use Rattle.meaning.specs.Basics.{all, is_digit, is_zero, within, part, digits_of, digits_in_range}
 use Rattle.std.specs.Prelude.{if◌then◌else◌}
-use Rattle.meaning.specs.Refusals.{ROOM, RANGE, SHORT, first_of}
-use Rattle.meaning.specs.Settings.{is_class, Settings, settings_of, settings_ranges, settings_in_range, dialled_ranges, dialled_in_range}
-use Rattle.meaning.specs.Filters.{Filter, fits_number}
-use Rattle.meaning.specs.Rules.{Rule, filter_in, chosen}
-use Rattle.meaning.specs.Actions.{ActionSet, actions_of, content_ranges, content_in_range, ca_bytes, sa_bytes, fa_bytes, cas_of, cas_in_range, codes_in_range}
-use Rattle.meaning.specs.Groups.{format_stands, each_value_once, fpfx_first, only_ccdef_after_x, group_rules, groups_hold, cas_fit, fit, fixed_sum}
-use Rattle.meaning.specs.Conditioning.{short, Stretch, stretch_of, value_from, conditioned_from}
-use Rattle.meaning.specs.Stretches.{Accounted}
-use Rattle.meaning.specs.Plan.{Plan, settings_in, held, content_rules, content_passes, slot_passes, fits_held, rules_fit, sound}
-use Rattle.meaning.specs.Reads.{Read, unread, read, conditioned_by, conditioned_under, conditioned, stretch_by, stretch_under, stretch}
-use Rattle.meaning.specs.Numbers.{sum_f, Conditions, NumberHolds, EveryNumber}
-use Rattle.meaning.proofs.Tests.{is_true, true_is, is_false, false_is, and_left, and_right, all_at, all_mem, all_place, digits_few}
+use Rattle.meaning.specs.Refusals.{SHORT}
+use Rattle.meaning.specs.Settings.{settings_of, settings_ranges, settings_in_range, dialled_ranges, dialled_in_range}
+use Rattle.meaning.specs.Filters.{fits_number}
+use Rattle.meaning.specs.Rules.{Rule, filter_in}
+use Rattle.meaning.specs.Actions.{actions_of, content_ranges, content_in_range, ca_bytes}
+use Rattle.meaning.specs.Groups.{group_rules, groups_hold, fit}
+use Rattle.meaning.specs.Conditioning.{short, stretch_of, value_from, conditioned_from}
+use Rattle.meaning.specs.Plan.{Plan, settings_in, content_rules, content_passes, fits_held, rules_fit, sound}
+use Rattle.meaning.specs.Reads.{Read, unread, read, conditioned_by, conditioned, stretch_by, stretch}
+use Rattle.meaning.specs.Numbers.{Conditions, NumberHolds, EveryNumber}
+use Rattle.meaning.proofs.Tests.{is_true, and_left, and_right, all_at, all_mem, digits_few}
 use Rattle.meaning.proofs.Choice.{Choice, no_rule, the_rule, choice}
-use Rattle.meaning.proofs.Stretches.{ranged, all_ranged, Ready, short_exactly, accounted}
+use Rattle.meaning.proofs.Stretches.{all_ranged, Ready, short_exactly, accounted}
 use Rattle.meaning.proofs.ConditionedNumber.{conditioned_length}
 use Rattle.meaning.proofs.Soundness.{Sound, sound_parts, held_passes}
 

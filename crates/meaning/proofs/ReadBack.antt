@@ -7,19 +7,19 @@ use mathlib.Core.Option.{Option, none, some}
 use native.Mathlib.Omega.{arith}
 use lib.ListN.{length, take, drop, get_or, set, replicate, length-drop, take-append-drop}
 use lib.Seq.{get_or-set_same, get_or-set_other, take_all}
-use lib.Dec.{T, T_not, eqb, compare_is_eq}
+use lib.Dec.{T, T_not, eqb}
 use borrow.Author.Tests.{eqb-true, eqb-false}
 use Rattle.meaning.specs.Sizes.{ROOMS-BYTES, SETTINGS-BYTES, OPENING-BYTES}
 use Rattle.meaning.specs.Basics.{any, is_some}
 use Rattle.std.specs.Prelude.{if◌then◌else◌}
-use Rattle.meaning.specs.Refusals.{Line, first_of}
-use Rattle.meaning.specs.Settings.{Rooms, rooms_of}
-use Rattle.meaning.specs.Filters.{Filter, filter_of, filter_in_range, is_same}
+use Rattle.meaning.specs.Refusals.{first_of}
+use Rattle.meaning.specs.Settings.{rooms_of}
+use Rattle.meaning.specs.Filters.{Filter, filter_of, is_same}
 use Rattle.meaning.specs.Rules.{Rule, filter_in, has_filter, set_named, insert, rename, without}
 use Rattle.meaning.specs.Actions.{content_in_range}
 use Rattle.meaning.specs.Plan.{Plan, held, fresh, with_slot, with_rules}
 use Rattle.meaning.specs.Reads.{over_room}
-use Rattle.meaning.specs.Calls.{Operation, open_plan, add_set, replace_set, remove_set, add_rule, change_rule, remove_rule, Call, kind_of, body_length, body_of, opened_rooms, opened_settings, set_number, content_given, code_given, set_given, rule_given, holds_filter, add_set_lines, replace_set_lines, remove_set_lines, add_rule_lines, change_rule_lines, lines_of, refusal, made, on_plan}
+use Rattle.meaning.specs.Calls.{Operation, open_plan, add_set, replace_set, remove_set, add_rule, change_rule, remove_rule, Call, kind_of, body_length, body_of, opened_rooms, opened_settings, set_number, content_given, code_given, set_given, rule_given, holds_filter, add_set_lines, replace_set_lines, remove_set_lines, add_rule_lines, change_rule_lines, lines_of, refusal, made}
 use Rattle.meaning.specs.LookBack.{opening_after, content_after, set_after}
 use Rattle.meaning.proofs.Tests.{true_is, is_true, and_left, or_left_false, or_right_false, not_not, passed_at}
 use Rattle.meaning.proofs.RuleLists.{before, same_filter, filter_same, moved}

@@ -1,19 +1,18 @@
 -- The list of rules: what adding, renaming and removing a rule keep of its order and of tests over it.
-use Prim.Native.Nat.{ℕ, zero, suc, ◌+◌, ◌≤◌, ◌<◌, Ordering}
+use Prim.Native.Nat.{ℕ, suc, ◌≤◌, Ordering}
 use mathlib.Core.Path.{◌≡◌, refl, ap, sym, ◌∙◌, subst}
 use mathlib.Core.Logic.{◌≢◌}
-use mathlib.Core.Bool.{Bool, true, false, ◌&&◌, ◌||◌, not}
+use mathlib.Core.Bool.{Bool, true, false, ◌&&◌, not}
 use mathlib.Core.List.{List, [], ◌∷◌, Memᴰ}
 use native.Mathlib.Omega.{arith}
-use native.Mathlib.Nat.{le_of_suc-le-suc}
-use lib.ListN.{length, get_or}
+use lib.ListN.{length}
 use lib.Dec.{T, compare_is_eq}
 use Rattle.meaning.specs.Basics.{all, any}
 use Rattle.std.specs.Prelude.{if◌then◌else◌}
-use Rattle.meaning.specs.Filters.{Filter, filter_of, compare_filters, is_lt, is_before, is_same}
+use Rattle.meaning.specs.Filters.{Filter, compare_filters, is_lt, is_before, is_same}
 use Rattle.meaning.specs.Rules.{Rule, filter_in, has_filter, rules_in_order, insert, rename, without}
-use Rattle.meaning.proofs.ListingOrder.{flip, Lawful, filters}
-use Rattle.meaning.proofs.Tests.{is_true, and_left, and_right, and_both, or_left_false, or_right_false, all_weaken, all_mem, all_place}
+use Rattle.meaning.proofs.ListingOrder.{flip, filters}
+use Rattle.meaning.proofs.Tests.{and_left, and_right, and_both, or_left_false, or_right_false, all_weaken, all_mem}
 
 -- THE RULES' LIST
 

@@ -1,28 +1,28 @@
 -- Every accepted call leaves a sound plan sound, and an accepted opening makes one.
 use Prim.Native.Nat.{ℕ, zero, suc, ◌≤◌, ◌<◌}
-use mathlib.Core.Path.{◌≡◌, refl, ap, sym, subst, ◌∙◌}
+use mathlib.Core.Path.{◌≡◌, refl, subst, ◌∙◌}
 use mathlib.Core.Bool.{Bool, true, false, ◌&&◌, ◌||◌, not}
 use mathlib.Core.List.{List, [], ◌∷◌, Memᴰ}
 use mathlib.Core.Option.{Option, none, some}
 use native.Mathlib.Omega.{arith}
-use lib.ListN.{length, take, get_or, set, replicate, length-set, length-replicate}
+use lib.ListN.{length, get_or, set, length-set, length-replicate}
 use lib.Seq.{get_or-set_same, get_or-set_other, length-take-le}
-use lib.Dec.{T, T_not, not_T, eqb, leb, ltb, eqb→eq, eqb_refl, le→leb, leb→le, nleb→lt, nltb→le}
+use lib.Dec.{T, T_not, not_T, eqb, leb, eqb→eq, eqb_refl, le→leb, leb→le, nleb→lt, nltb→le}
 use borrow.Author.Tests.{eqb-true, eqb-false}
 use Rattle.meaning.specs.Sizes.{ROOMS-BYTES, SETTINGS-BYTES, OPENING-BYTES, SET-NUMBER-BYTES, CONTENT-BYTES, SET-BODY, FILTER-BYTES, RULE-BODY}
-use Rattle.meaning.specs.Basics.{all, any, all_of, is_some}
+use Rattle.meaning.specs.Basics.{all, is_some}
 use Rattle.std.specs.Prelude.{if◌then◌else◌}
-use Rattle.meaning.specs.Refusals.{Line, first_of}
-use Rattle.meaning.specs.Settings.{Rooms, rooms_of, rooms_in_range, settings_in_range}
+use Rattle.meaning.specs.Refusals.{first_of}
+use Rattle.meaning.specs.Settings.{rooms_of, rooms_in_range, settings_in_range}
 use Rattle.meaning.specs.Filters.{Filter, filter_of, filter_in_range}
-use Rattle.meaning.specs.Rules.{Rule, filter_in, names, has_filter, rules_in_order, insert, rename, without}
+use Rattle.meaning.specs.Rules.{Rule, filter_in, names, rules_in_order, insert, rename, without}
 use Rattle.meaning.specs.Actions.{actions_of, content_in_range}
 use Rattle.meaning.specs.Groups.{groups_hold, fit}
 use Rattle.meaning.specs.Plan.{Plan, rooms_in, held, fresh, with_slot, with_rules, sized, content_passes, slot_passes, code_passes, fits_held, rules_fit, codes_pass, sound_rules, sound, NamesHeld}
 use Rattle.meaning.specs.Reads.{over_room}
-use Rattle.meaning.specs.Calls.{Operation, open_plan, add_set, replace_set, remove_set, add_rule, change_rule, remove_rule, Call, kind_of, body_length, is_cut, body_of, opened_rooms, opened_settings, set_number, content_given, code_given, set_given, rule_given, holds_filter, opening_lines, add_set_lines, replace_set_lines, remove_set_lines, add_rule_lines, change_rule_lines, remove_rule_lines, over_plan, lines_of, refusal, on_plan, made, is_accepted, after}
-use Rattle.meaning.proofs.Tests.{is_true, is_false, true_is, false_is, and_left, and_right, and_both, or_left_false, or_right_false, or_use, not_not, each_all, all_at, passed_at, passed, all_weaken, all_both, none_any, all_set, all_replicate, all_mem, part_length}
-use Rattle.meaning.proofs.RuleLists.{same_filter, moved, all_insert, in_order_insert, length_insert, all_without, in_order_without, length_without, all_rename, in_order_rename, length_rename}
+use Rattle.meaning.specs.Calls.{Operation, open_plan, add_set, replace_set, remove_set, add_rule, change_rule, remove_rule, Call, kind_of, body_length, is_cut, body_of, opened_rooms, opened_settings, set_number, content_given, code_given, set_given, rule_given, opening_lines, add_set_lines, replace_set_lines, remove_set_lines, add_rule_lines, change_rule_lines, lines_of, refusal, made, is_accepted, after}
+use Rattle.meaning.proofs.Tests.{is_false, and_left, and_right, and_both, or_left_false, or_right_false, or_use, not_not, each_all, all_at, passed_at, passed, all_weaken, all_both, none_any, all_set, all_replicate, all_mem, part_length}
+use Rattle.meaning.proofs.RuleLists.{same_filter, all_insert, in_order_insert, length_insert, all_without, in_order_without, length_without, all_rename, in_order_rename, length_rename}
 
 -- WHAT SOUND MEANS, FIELD BY FIELD
 

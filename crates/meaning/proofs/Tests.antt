@@ -1,17 +1,16 @@
 -- Laws of Boolean tests, of tests over lists, and of a list of checks in order.
 use Prim.Native.Nat.{ℕ, zero, suc, ◌+◌, ◌≤◌, ◌<◌}
-use mathlib.Core.Path.{◌≡◌, refl, ap, ap₂, sym, ◌∙◌}
+use mathlib.Core.Path.{◌≡◌, refl, ap, ap₂}
 use mathlib.Core.Logic.{◌↔◌}
 use mathlib.Core.Bool.{Bool, true, false, ◌&&◌, ◌||◌, not}
-use mathlib.Core.List.{List, [], ◌∷◌, ◌++◌, map, Memᴰ}
-use mathlib.Core.Option.{Option, none, some}
+use mathlib.Core.List.{List, [], ◌∷◌, map, Memᴰ}
 use native.Mathlib.Omega.{arith}
 use native.Mathlib.Nat.{le_of_suc-le-suc}
 use lib.ListN.{length, take, drop, get_or, set, replicate, length-take, length-drop}
 use lib.Seq.{length-take-le}
 use lib.Dec.{T, T_not, leb, eqb, leb→le, eqb_refl, eqb→eq}
 use borrow.Author.Tests.{eqb-true, eqb-false}
-use Rattle.meaning.specs.Basics.{all, any, count, all_of, within, is_zero, is_some, part, is_digit, same_bytes, digits_of, digits_in_range}
+use Rattle.meaning.specs.Basics.{all, any, count, all_of, within, is_zero, part, is_digit, same_bytes, digits_of, digits_in_range}
 use Rattle.std.specs.Prelude.{if◌then◌else◌}
 use Rattle.meaning.specs.Refusals.{Line, first_of}
 

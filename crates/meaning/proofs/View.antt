@@ -4,7 +4,7 @@ use mathlib.Core.Path.{◌≡◌, refl, ap, ap₂, sym, ◌∙◌}
 use mathlib.Core.List.{List, [], ◌∷◌, map}
 use mathlib.Core.Option.{Option, none, some}
 use lib.ListN.{get_elem?}
-use Rattle.meaning.specs.Settings.{Settings, Number}
+use Rattle.meaning.specs.Settings.{Number}
 use Rattle.meaning.specs.Rules.{Rule, filter_in, weight, first_largest, chosen_place, rule_at, chosen}
 use Rattle.meaning.specs.Plan.{Plan, settings_in}
 use Rattle.meaning.specs.Answer.{answer_under, answer_of}

@@ -1,7 +1,7 @@
 -- Document 01, "Action sets": what the bytes of a set's content hold, and their RANGE.
-use Rattle.std.specs.Prelude.{ℕ, Bool, true, false, ◌&&◌, List, [], ◌∷◌, take, drop, get_or, leb, eqb}
+use Rattle.std.specs.Prelude.{ℕ, Bool, true, false, ◌&&◌, List, [], ◌∷◌, get_or, leb, eqb}
 use Rattle.meaning.specs.Sizes.{OUTGOING-AT, CA-AT, SA-AT, FA-AT}
-use Rattle.meaning.specs.Basics.{all, any, all_of, is_zero, within, part}
+use Rattle.meaning.specs.Basics.{all, all_of, is_zero, within, part}
 use Rattle.std.specs.Prelude.{if◌then◌else◌}
 use Rattle.meaning.specs.Settings.{is_outgoing_class}
 

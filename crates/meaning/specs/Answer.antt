@@ -1,10 +1,10 @@
 -- Document 01, "Carrying it out": the answer to a number over a plan, with all its fields.
-use Rattle.std.specs.Prelude.{ℕ, suc, zero, Bool, true, false, not, List, [], ◌∷◌, length, take, replicate, leb, ltb, eqb}
+use Rattle.std.specs.Prelude.{ℕ, suc, zero, true, not, List, [], ◌∷◌, length, take, replicate, leb, ltb, eqb}
 use Rattle.std.proofs.Math.Option.{Option, none, some}
 use Rattle.meaning.specs.Sizes.{NUMBER-BYTES, DIGIT-ROOM}
 use Rattle.meaning.specs.Basics.{is_empty}
 use Rattle.std.specs.Prelude.{if◌then◌else◌}
-use Rattle.meaning.specs.Refusals.{CUT, PLAN, ROOM, RANGE, SHORT, LONG, Line, first_of}
+use Rattle.meaning.specs.Refusals.{CUT, PLAN, ROOM, RANGE, SHORT, LONG, first_of}
 use Rattle.meaning.specs.Settings.{AS-INCOMING, Settings, Number, number_of, number_in_range}
 use Rattle.meaning.specs.Filters.{Filter}
 use Rattle.meaning.specs.Rules.{Rule, filter_in, chosen}

@@ -1,6 +1,6 @@
 -- Document 01's numbers and values, and C-11's, for each case of the answers that the functions give.
 use Prim.Native.Nat.{ℕ, Ordering}
-use Rattle.std.specs.Prelude.{◌≡◌, List, [], ◌∷◌, ℤ, length, replicate, eqb}
+use Rattle.std.specs.Prelude.{◌≡◌, ℤ, length, replicate, eqb}
 use Rattle.std.proofs.Math.Option.{Option, none, some}
 use Rattle.meaning.specs.Basics.{padded}
 use Rattle.std.specs.Prelude.{if◌then◌else◌}
@@ -31,7 +31,6 @@ use Rattle.meaning.specs.declared.Chosen.TheVariants.{At, NoRule}
 use Rattle.meaning.specs.declared.Order.{Order}
 use Rattle.meaning.specs.declared.Order.TheVariants.{Before, Same, After}
 use Rattle.meaning.specs.declared.Answered.{Answered}
-use Rattle.meaning.specs.declared.Loss.{Loss}
 use Rattle.meaning.specs.declared.LossAnswer.{LossAnswer}
 use Rattle.meaning.specs.declared.LossAnswer.TheVariants.{«Loss» as LossOf, NoRecords, Refused as NotRead}
 use Rattle.meaning.specs.declared.Span.{Span}

@@ -1,12 +1,12 @@
 -- The seven calls that open and provision a plan: the checks of each in order, what an accepted one makes, and what a list of calls puts in.
-use Rattle.std.specs.Prelude.{ℕ, Bool, true, false, ◌&&◌, ◌||◌, not, List, [], ◌∷◌, length, take, get_or, leb, ltb, eqb}
+use Rattle.std.specs.Prelude.{ℕ, Bool, true, ◌&&◌, ◌||◌, not, List, [], ◌∷◌, length, take, get_or, leb, ltb, eqb}
 use Rattle.std.proofs.Math.Option.{Option, none, some}
 use Rattle.meaning.specs.Sizes.{ROOMS-BYTES, SETTINGS-BYTES, OPENING-BYTES, SET-NUMBER-BYTES, CONTENT-BYTES, SET-BODY, FILTER-BYTES, SET-AT, RULE-BODY, NUMBER-BYTES, CALL-BYTES, PRICE-BODY}
 use Rattle.meaning.specs.Basics.{within, all, any, is_some, is_zero, part, word}
 use Rattle.std.specs.Prelude.{if◌then◌else◌}
 use Rattle.meaning.specs.Refusals.{CUT, PLAN, ROOM, RANGE, GROUPS, TAKEN, ABSENT, MISFIT, FULL, IN-USE, Line, first_of}
-use Rattle.meaning.specs.Settings.{Rooms, rooms_of, rooms_in_range, settings_in_range, bytes_needed}
-use Rattle.meaning.specs.Filters.{Filter, filter_of, filter_in_range}
+use Rattle.meaning.specs.Settings.{rooms_of, rooms_in_range, settings_in_range, bytes_needed}
+use Rattle.meaning.specs.Filters.{filter_of, filter_in_range}
 use Rattle.meaning.specs.Rules.{Rule, filter_in, names, has_filter, insert, rename, without}
 use Rattle.meaning.specs.Actions.{actions_of, content_in_range}
 use Rattle.meaning.specs.Groups.{groups_hold, fit}

@@ -1,5 +1,5 @@
 -- C-11's call record: what it is due by the plan and the price list as they stand, how it is answered, and the ledger that it leaves.
-use Rattle.std.specs.Prelude.{ℕ, ◌*◌, Bool, true, false, ◌&&◌, not, List, [], ◌∷◌, length, take, leb, ltb, eqb}
+use Rattle.std.specs.Prelude.{ℕ, ◌*◌, Bool, true, ◌&&◌, not, List, [], ◌∷◌, length, take, leb, ltb, eqb}
 use Rattle.std.proofs.Math.Option.{Option, none, some}
 use Rattle.meaning.specs.Sizes.{NUMBER-BYTES, DISTRICT-AT, SECONDS-AT, BILLED-AT, CALL-HEAD, CALL-BYTES, DIGIT-ROOM, DISTRICTS}
 use Rattle.meaning.specs.Basics.{all_of, is_zero, is_some, part, word, quad}

@@ -1,5 +1,5 @@
 -- The choice in document 01's own words: what the rule chosen must be. proofs/Choice.antt proves that it is so, and that no other rule is.
-use Rattle.std.specs.Prelude.{ℕ, ◌<◌, ◌≡◌, ◌≢◌, ◌⊎◌, Bool, true, false, length, T}
+use Rattle.std.specs.Prelude.{ℕ, ◌<◌, ◌≡◌, ◌≢◌, ◌⊎◌, false, length, T}
 use mathlib.Core.List.{List, Memᴰ}
 use Rattle.meaning.specs.Filters.{Filter, fits_number}
 use Rattle.meaning.specs.Rules.{Rule, filter_in}

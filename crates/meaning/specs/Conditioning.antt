@@ -1,6 +1,6 @@
 -- Document 01, "Carrying it out", conditioning: which stretch of the incoming number each CA takes, SHORT, the values and the conditioned number.
 -- `prefix` is the length of the matched prefix, `left` how many digits are left, `at` the place reached.
-use Rattle.std.specs.Prelude.{ℕ, zero, suc, ◌+◌, ◌-◌, Bool, true, false, ◌&&◌, ◌||◌, not, List, [], ◌∷◌, ◌++◌, length, take, drop, ltb, eqb}
+use Rattle.std.specs.Prelude.{ℕ, ◌+◌, ◌-◌, Bool, false, ◌&&◌, ◌||◌, not, List, [], ◌∷◌, ◌++◌, length, ltb, eqb}
 use Rattle.meaning.specs.Basics.{any, is_zero, part}
 use Rattle.std.specs.Prelude.{if◌then◌else◌}
 use Rattle.meaning.specs.Actions.{CC, AC, SN, DN, ZN, CA, is_ign, is_x, is_ccdef, value_of, sets_value}

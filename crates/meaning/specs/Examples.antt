@@ -1,9 +1,8 @@
 -- Document 01's marked examples, M1 to M12, and document 02's of C-12, as one table: the calls that make the plan, what is asked, and the result, every field of it.
-use Rattle.std.specs.Prelude.{ℕ, ◌≡◌, Bool, true, false, List, [], ◌∷◌, ◌++◌, map, length, replicate}
+use Rattle.std.specs.Prelude.{ℕ, ◌≡◌, List, [], ◌∷◌, ◌++◌, length, replicate}
 use Rattle.std.proofs.Math.Option.{Option, none, some}
 use Rattle.meaning.specs.Sizes.{SETTINGS-BYTES, CONTENT-BYTES, NUMBER-BYTES, DIGIT-ROOM}
 use Rattle.meaning.specs.Basics.{padded}
-use Rattle.std.specs.Prelude.{if◌then◌else◌}
 use Rattle.meaning.specs.Settings.{bytes_needed}
 use Rattle.meaning.specs.Rules.{Rule, chosen}
 use Rattle.meaning.specs.Plan.{Plan}

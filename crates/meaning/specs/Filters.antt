@@ -1,6 +1,6 @@
 -- Document 01, "Filters and the choice": which numbers a filter fits, how specific it is, and the listing order.
 use Prim.Native.Nat.{ℕ, zero, suc, ◌+◌, ◌*◌, compare, Ordering}
-use Rattle.std.specs.Prelude.{Bool, true, false, ◌&&◌, ◌||◌, List, [], ◌∷◌, length, take, drop, get_or, leb, eqb}
+use Rattle.std.specs.Prelude.{Bool, true, false, ◌&&◌, ◌||◌, List, [], ◌∷◌, length, get_or, leb, eqb}
 use Rattle.std.proofs.Math.Dec.{compare_is_eq}
 use Rattle.meaning.specs.Sizes.{CLASS-AT, PREFIX-AT, LENGTH-AT}
 use Rattle.meaning.specs.Basics.{all_of, is_zero, part, digits_of, digits_in_range, begins_with}

@@ -1,5 +1,5 @@
 -- Document 01's group rules, each under its own name, and the fit of a rule and a set.
-use Rattle.std.specs.Prelude.{ℕ, zero, suc, ◌+◌, Bool, true, false, ◌&&◌, ◌||◌, not, List, [], ◌∷◌, length, drop, get_or, leb, ltb, eqb}
+use Rattle.std.specs.Prelude.{ℕ, zero, suc, ◌+◌, Bool, true, ◌&&◌, ◌||◌, not, List, [], ◌∷◌, length, drop, get_or, leb, ltb, eqb}
 use Rattle.meaning.specs.Basics.{all, any, count, all_of, is_empty, is_zero, contains}
 use Rattle.std.specs.Prelude.{if◌then◌else◌}
 use Rattle.meaning.specs.Filters.{Filter}

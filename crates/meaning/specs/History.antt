@@ -1,5 +1,5 @@
 -- Demand 3 over the definitions: what holds of the plan that a list of calls puts in. The claim about the functions that run rests on it.
-use Rattle.std.specs.Prelude.{ℕ, zero, suc, ◌<◌, ◌≡◌, ◌↔◌, ◌≢◌, ◌⊎◌, Bool, true, false, ◌&&◌, not, length, get_or, T, eqb}
+use Rattle.std.specs.Prelude.{ℕ, ◌<◌, ◌≡◌, ◌↔◌, ◌≢◌, ◌⊎◌, Bool, true, ◌&&◌, not, length, get_or, T, eqb}
 use mathlib.Core.List.{List, [], ◌∷◌, Memᴰ}
 use Rattle.std.proofs.Math.Option.{Option, none, some}
 use Rattle.meaning.specs.Basics.{all, is_some}
@@ -8,7 +8,7 @@ use Rattle.meaning.specs.Filters.{Filter, is_before}
 use Rattle.meaning.specs.Rules.{Rule, filter_in}
 use Rattle.meaning.specs.Plan.{Plan, held, referrers, sound, NamesHeld}
 use Rattle.meaning.specs.Reads.{Listed, listing}
-use Rattle.meaning.specs.Calls.{Operation, open_plan, remove_set, Call, is_cut, set_number, body_of, opened_rooms, opened_settings, refusal, put_in, refusals_from}
+use Rattle.meaning.specs.Calls.{open_plan, remove_set, Call, is_cut, set_number, body_of, opened_rooms, opened_settings, refusal, put_in, refusals_from}
 use Rattle.meaning.specs.LookBack.{accepted, last_opening, last_content, last_set}
 
 -- strictly in listing order

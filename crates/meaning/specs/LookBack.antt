@@ -1,6 +1,6 @@
 -- What was put in, in document 01's own words, looking back over the list of calls: "It is, since the last accepted opening: that
 -- opening's rooms and settings, and each set or filter added and not since removed, with the content or set number last accepted for it."
-use Rattle.std.specs.Prelude.{ℕ, Bool, true, false, List, [], ◌∷◌, eqb}
+use Rattle.std.specs.Prelude.{ℕ, Bool, List, [], ◌∷◌, eqb}
 use Rattle.std.proofs.Math.Option.{Option, none, some}
 use Rattle.std.specs.Prelude.{if◌then◌else◌}
 use Rattle.meaning.specs.Filters.{Filter, filter_of, is_same}

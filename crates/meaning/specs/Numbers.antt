@@ -1,14 +1,13 @@
 -- Demand 3 on a number: "for any number that RANGE doesn't refuse and whose chosen rule has conditioning actions". proofs/Numbers.antt proves it
 -- over every sound plan.
-use Rattle.std.specs.Prelude.{ℕ, ◌≤◌, ◌≡◌, ◌↔◌, ◌⊎◌, Bool, true, false, List, length, T}
-use Rattle.std.proofs.Math.Option.{Option, none, some}
+use Rattle.std.specs.Prelude.{ℕ, ◌≤◌, ◌≡◌, ◌↔◌, ◌⊎◌, false, List, length, T}
+use Rattle.std.proofs.Math.Option.{some}
 use Rattle.meaning.specs.Sizes.{DIGIT-ROOM}
 use Rattle.meaning.specs.Basics.{is_empty}
 use Rattle.meaning.specs.Refusals.{SHORT}
 use Rattle.meaning.specs.Settings.{dialled_in_range}
-use Rattle.meaning.specs.Filters.{Filter}
 use Rattle.meaning.specs.Rules.{Rule, filter_in, chosen}
-use Rattle.meaning.specs.Actions.{ActionSet, actions_of}
+use Rattle.meaning.specs.Actions.{actions_of}
 use Rattle.meaning.specs.Groups.{fixed_sum}
 use Rattle.meaning.specs.Stretches.{Accounted}
 use Rattle.meaning.specs.Plan.{Plan, held, sound}

@@ -1,9 +1,8 @@
 -- The plan as data: what is put in by opening and provisioning, and what makes it sound.
-use Rattle.std.specs.Prelude.{ℕ, ◌≡◌, Bool, true, false, ◌&&◌, List, [], ◌∷◌, map, length, take, drop, get_or, set, replicate, T, leb, eqb}
+use Rattle.std.specs.Prelude.{ℕ, ◌≡◌, Bool, true, false, ◌&&◌, List, [], ◌∷◌, length, get_or, set, replicate, T, leb, eqb}
 use Rattle.std.proofs.Math.Option.{Option, none, some}
 use Rattle.meaning.specs.Sizes.{ROOMS-BYTES, SETTINGS-BYTES, CONTENT-BYTES, FILTER-BYTES}
-use Rattle.meaning.specs.Basics.{all, any, count, all_of, part}
-use Rattle.std.specs.Prelude.{if◌then◌else◌}
+use Rattle.meaning.specs.Basics.{all, count, all_of}
 use Rattle.meaning.specs.Settings.{Rooms, rooms_of, rooms_in_range, Settings, settings_of, settings_in_range}
 use Rattle.meaning.specs.Filters.{Filter, filter_in_range}
 use Rattle.meaning.specs.Rules.{Rule, filter_in, names, rules_in_order}

@@ -1,6 +1,6 @@
 -- C-11's price list: rows of a prefix and a price, the price of a call to some digits, and the row that is added.
-use Prim.Native.Nat.{ℕ, ◌+◌, Ordering}
-use Rattle.std.specs.Prelude.{Bool, true, false, ◌&&◌, not, List, [], ◌∷◌, map, length, take, leb, ltb, eqb}
+use Prim.Native.Nat.{ℕ, ◌+◌}
+use Rattle.std.specs.Prelude.{Bool, true, ◌&&◌, not, List, [], ◌∷◌, map, length, take, leb, ltb, eqb}
 use Rattle.std.proofs.Math.Option.{Option, none, some}
 use Rattle.std.proofs.Math.ListN.{get_elem?}
 use Rattle.meaning.specs.Sizes.{CODE-BYTES, PRICE-BODY, PRICE-ROOM}

@@ -1,12 +1,12 @@
 -- Document 01's four read calls, and the listing, over a plan (none: the lent memory is no sound plan).
-use Rattle.std.specs.Prelude.{ℕ, zero, suc, ◌/◌, ◌%◌, Bool, true, false, ◌&&◌, ◌||◌, not, List, [], ◌∷◌, map, length, get_or, leb, ltb, eqb}
+use Rattle.std.specs.Prelude.{ℕ, zero, suc, ◌/◌, ◌%◌, Bool, ◌&&◌, not, List, [], ◌∷◌, map, length, leb, ltb}
 use Rattle.std.proofs.Math.Option.{Option, none, some}
 use Rattle.std.proofs.Math.ListN.{get_elem?}
 use Rattle.meaning.specs.Sizes.{SET-BODY, DIGIT-ROOM}
 use Rattle.meaning.specs.Basics.{is_empty, within, is_some}
 use Rattle.std.specs.Prelude.{if◌then◌else◌}
-use Rattle.meaning.specs.Refusals.{PLAN, ROOM, RANGE, ABSENT, SHORT, Line, first_of}
-use Rattle.meaning.specs.Settings.{Rooms, Settings, dialled_in_range}
+use Rattle.meaning.specs.Refusals.{PLAN, ROOM, RANGE, ABSENT, SHORT, first_of}
+use Rattle.meaning.specs.Settings.{Settings, dialled_in_range}
 use Rattle.meaning.specs.Filters.{Filter}
 use Rattle.meaning.specs.Rules.{Rule, filter_in, chosen}
 use Rattle.meaning.specs.Actions.{LAST-CONDITIONED, ActionSet}

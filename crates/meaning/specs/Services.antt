@@ -1,5 +1,5 @@
 -- Document 01, "Carrying it out", the service actions and formatting.
-use Rattle.std.specs.Prelude.{ℕ, ◌-◌, Bool, true, false, ◌&&◌, ◌||◌, not, List, [], ◌∷◌, ◌++◌, length, take, get_or, replicate, leb, eqb}
+use Rattle.std.specs.Prelude.{ℕ, ◌-◌, Bool, false, ◌&&◌, ◌||◌, not, List, [], ◌∷◌, ◌++◌, take, get_or, replicate, leb, eqb}
 use Rattle.meaning.specs.Basics.{is_zero, is_empty, contains}
 use Rattle.std.specs.Prelude.{if◌then◌else◌}
 use Rattle.meaning.specs.Settings.{Settings, Lookup}

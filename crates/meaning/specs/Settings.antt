@@ -1,5 +1,5 @@
 -- Document 01, "Digits, classes, settings": classes, the rooms and settings of an opening, and a called number with its lookup.
-use Rattle.std.specs.Prelude.{ℕ, zero, suc, ◌+◌, ◌*◌, Bool, true, false, ◌&&◌, ◌||◌, List, [], ◌∷◌, length, take, drop, get_or, leb, ltb, eqb}
+use Rattle.std.specs.Prelude.{ℕ, ◌+◌, ◌*◌, Bool, ◌&&◌, ◌||◌, List, [], ◌∷◌, length, get_or, leb, eqb}
 use Rattle.meaning.specs.Sizes.{COUNTRY-AT, DFLTRN-AT, DELIMITER-A-AT, DELIMITER-B-AT, ANSWERS-AT, ACCEPTING-AT, CLASS-AT, DIALLED-AT, LOOKUP-AT, ENTITY-IN, ASD-IN, GRN-IN, LOOKUP-BYTES, SETS-AT, SET-WIDTH, RULE-WIDTH}
 use Rattle.meaning.specs.Basics.{all, all_of, is_zero, within, word, part, is_digit, digits_of, digits_in_range}
 use Rattle.std.specs.Prelude.{if◌then◌else◌}

@@ -1,6 +1,6 @@
 -- Demand 3 on conditioning, in document 01's words: how the CAs of a list cover the incoming digits. proofs/Stretches.antt proves it of every
 -- set that keeps the group rules and fits its rule.
-use Rattle.std.specs.Prelude.{ℕ, ◌+◌, ◌-◌, ◌≤◌, ◌<◌, ◌≡◌, ◌↔◌, Bool, true, false, List, [], ◌∷◌, length, T}
+use Rattle.std.specs.Prelude.{ℕ, ◌+◌, ◌-◌, ◌≤◌, ◌<◌, ◌≡◌, ◌↔◌, true, List, [], ◌∷◌, length, T}
 use Rattle.meaning.specs.Basics.{within, part}
 use Rattle.meaning.specs.Filters.{Filter}
 use Rattle.meaning.specs.Actions.{LAST-COUNTED, CA, is_ign, is_x, is_fpfx, is_ccdef, value_of, ActionSet}

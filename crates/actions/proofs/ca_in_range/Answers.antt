@@ -1,6 +1,5 @@
 -- The tests are the definition's.
 use Prim.Native.Nat.{◌≤◌}
-use borrow.Author.Rules.{rules}
 use borrow.Author.Tests.{le-leb}
 use Rattle.meaning.specs.Actions.{ca_in_range}
 use Rattle.actions.proofs.Tables.{tests}

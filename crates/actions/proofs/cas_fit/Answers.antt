@@ -1,7 +1,5 @@
 -- Each part of the fit is its function's.
 use mathlib.Core.Path.{sym, ◌∙◌}
-use borrow.Author.Rules.{rules}
-use borrow.Author.Tests.{not-true, not-false}
 use Rattle.meaning.specs.Groups.{cas_fit}
 use Rattle.actions.proofs.cas_fit.Goals as goal
 

@@ -1,10 +1,10 @@
 -- What is left of the bytes decides: the loop ends behind them, at one byte alone, at code 0 or at the first action out of range.
-use Prim.Native.Nat.{◌+◌, ◌-◌, ◌≤◌}
+use Prim.Native.Nat.{◌+◌}
 use mathlib.Core.Path.{◌≡◌, sym, ◌∙◌}
 use mathlib.Core.Bool.{true, false}
-use lib.ListN.{length, drop, get_or}
+use lib.ListN.{get_or}
 use borrow.Author.Rules.{rules}
-use borrow.Author.Tests.{not-true, not-false, eq-eqb, ne_eqb}
+use borrow.Author.Tests.{eq-eqb, ne_eqb}
 use Rattle.meaning.specs.Basics.{all, is_zero}
 use Rattle.meaning.specs.Actions.{cas_in_range}
 use Rattle.actions.proofs.Lists.{on, next_two, next_none, next_last, of_rest}

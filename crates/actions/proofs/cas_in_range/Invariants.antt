@@ -1,13 +1,8 @@
 -- What is left of the bytes decides: the loop ends behind them, at one byte alone, at code 0 or at the first action out of range.
-use Prim.Native.Nat.{◌+◌, ◌-◌, ◌≤◌}
-use mathlib.Core.Path.{◌≡◌, sym, ◌∙◌}
-use mathlib.Core.Bool.{true, false}
-use lib.ListN.{length, drop, get_or}
-use borrow.Author.Rules.{rules}
-use borrow.Author.Tests.{not-true, not-false, eq-eqb, ne_eqb}
-use Rattle.meaning.specs.Basics.{all, is_zero}
+use Prim.Native.Nat.{◌-◌, ◌≤◌}
+use mathlib.Core.Path.{◌≡◌}
+use lib.ListN.{length, drop}
 use Rattle.meaning.specs.Actions.{cas_in_range}
-use Rattle.actions.proofs.Lists.{on, next_two, next_none, next_last, of_rest}
 use Rattle.actions.proofs.cas_in_range.Given as goal
 
 abbrev pub invariant-loop-i : goal.invariant-loop-i

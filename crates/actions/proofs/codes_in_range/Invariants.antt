@@ -1,12 +1,8 @@
 -- What is left of the bytes decides: the loop ends behind them, at code 0 or at the first code out of range.
-use Prim.Native.Nat.{◌+◌, ◌-◌, ◌≤◌}
-use mathlib.Core.Path.{◌≡◌, ◌∙◌}
+use Prim.Native.Nat.{◌-◌, ◌≤◌}
+use mathlib.Core.Path.{◌≡◌}
 use lib.ListN.{length, drop}
-use borrow.Author.Rules.{rules}
-use borrow.Author.Tests.{le-leb, lt-leb, eq-eqb, ne_eqb}
-use Rattle.meaning.specs.Basics.{all, is_zero}
 use Rattle.meaning.specs.Actions.{codes_in_range}
-use Rattle.actions.proofs.Lists.{on, next_one, next_none, of_rest}
 use Rattle.actions.proofs.codes_in_range.Given as goal
 
 abbrev pub invariant-loop-i : goal.invariant-loop-i

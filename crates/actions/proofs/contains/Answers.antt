@@ -1,12 +1,7 @@
 -- What is left of the list decides: the loop ends at its end or at the first that is looked for.
-use Prim.Native.Nat.{◌-◌, ◌≤◌}
 use native.Mathlib.Omega.{arith}
-use mathlib.Core.Path.{◌≡◌}
-use lib.ListN.{length, drop}
-use borrow.Author.Rules.{rules}
 use borrow.Author.Tests.{eq-eqb, ne_eqb}
 use Rattle.meaning.specs.Basics.{contains}
-use Rattle.meaning.specs.Actions.{codes_of}
 use Rattle.actions.proofs.Reading.{stop, step}
 use Rattle.actions.proofs.contains.Goals as goal
 

@@ -4,8 +4,6 @@ use mathlib.Core.Path.{sym, ◌∙◌}
 use mathlib.Core.Bool.{Bool, and-true}
 use mathlib.Core.List.{List, [], ◌∷◌}
 use lib.ListN.{get_or}
-use borrow.Author.Rules.{rules}
-use borrow.Author.Tests.{not-true, not-false}
 use Rattle.meaning.specs.Settings.{is_outgoing_class}
 use Rattle.meaning.specs.Actions.{DELIMITER-B, CDIAL, ca_bytes, sa_bytes, fa_bytes, cas_in_range, codes_in_range, content_in_range}
 use Rattle.meaning.proofs.Tests.{all_false}

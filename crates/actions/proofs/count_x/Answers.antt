@@ -1,12 +1,8 @@
 -- What is left of the list decides: the count so far and that of what is left.
-use Prim.Native.Nat.{◌+◌, ◌-◌, ◌≤◌}
 use native.Mathlib.Omega.{arith}
-use mathlib.Core.Path.{◌≡◌, sym, ap, ◌∙◌}
-use mathlib.Core.Logic.{⊎_elim}
-use lib.ListN.{length, drop}
-use borrow.Author.Rules.{rules}
+use mathlib.Core.Path.{sym, ap, ◌∙◌}
 use Rattle.meaning.specs.Basics.{count}
-use Rattle.meaning.specs.Actions.{is_x, cas_of}
+use Rattle.meaning.specs.Actions.{is_x}
 use Rattle.actions.proofs.count_x.Goals as goal
 use Rattle.actions.proofs.count_x.Goals.{then-is_x, else-is_x}
 
@@ -26,6 +22,6 @@ pub loop-a-preserved : goal.loop-a-preserved
 loop-a-preserved c = let h = c.action_at-a.ensures.inside c.if-a-eq0.false in
     let e = ap (count is_x) (c.action_at-a.ensures.goes c.if-a-eq0.false) in
     elim c.if-is_x.branch [
-      then-is_x w ↦ (h, omega arith, omega (arith, rw (sym c.is_x.ensures ∙ w.if-is_x.true) at e, c.loop-a.invariant.2, w.n-is))
-    | else-is_x w ↦ (h, omega arith, omega (arith, rw (sym c.is_x.ensures ∙ w.if-is_x.false) at e, c.loop-a.invariant.2, w.n-is))
+      | then-is_x w ↦ (h, omega arith, omega (arith, rw (sym c.is_x.ensures ∙ w.if-is_x.true) at e, c.loop-a.invariant.2, w.n-is))
+      | else-is_x w ↦ (h, omega arith, omega (arith, rw (sym c.is_x.ensures ∙ w.if-is_x.false) at e, c.loop-a.invariant.2, w.n-is))
     ]

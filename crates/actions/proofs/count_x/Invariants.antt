@@ -1,10 +1,7 @@
 -- What is left of the list decides: the count so far and that of what is left.
 use Prim.Native.Nat.{◌+◌, ◌-◌, ◌≤◌}
-use native.Mathlib.Omega.{arith}
-use mathlib.Core.Path.{◌≡◌, sym, ap, ◌∙◌}
-use mathlib.Core.Logic.{⊎_elim}
+use mathlib.Core.Path.{◌≡◌}
 use lib.ListN.{length, drop}
-use borrow.Author.Rules.{rules}
 use Rattle.meaning.specs.Basics.{count}
 use Rattle.meaning.specs.Actions.{is_x, cas_of}
 use Rattle.actions.proofs.count_x.Given as goal

@@ -1,5 +1,4 @@
 -- The tests are the definition's.
-use borrow.Author.Rules.{rules}
 use Rattle.actions.proofs.Tables.{tests}
 use Rattle.actions.proofs.fixed_of.Goals as goal
 

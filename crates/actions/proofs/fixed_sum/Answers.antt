@@ -1,10 +1,7 @@
 -- What is left of the list decides: the sum so far and that of what is left. No action adds more than 255.
-use Prim.Native.Nat.{◌+◌, ◌-◌, ◌*◌, ◌≤◌}
 use native.Mathlib.Omega.{arith}
-use mathlib.Core.Path.{◌≡◌, ap}
-use lib.ListN.{length, drop}
+use mathlib.Core.Path.{ap}
 use borrow.Author.Rules.{rules}
-use Rattle.meaning.specs.Actions.{cas_of}
 use Rattle.meaning.specs.Groups.{fixed_sum}
 use Rattle.actions.specs.Reading.{action_of}
 use Rattle.actions.proofs.Fit.{fixed_small}

@@ -1,13 +1,9 @@
 -- What is left of the list decides: the sum so far and that of what is left. No action adds more than 255.
 use Prim.Native.Nat.{◌+◌, ◌-◌, ◌*◌, ◌≤◌}
-use native.Mathlib.Omega.{arith}
-use mathlib.Core.Path.{◌≡◌, ap}
+use mathlib.Core.Path.{◌≡◌}
 use lib.ListN.{length, drop}
-use borrow.Author.Rules.{rules}
 use Rattle.meaning.specs.Actions.{cas_of}
 use Rattle.meaning.specs.Groups.{fixed_sum}
-use Rattle.actions.specs.Reading.{action_of}
-use Rattle.actions.proofs.Fit.{fixed_small}
 use Rattle.actions.proofs.fixed_sum.Given as goal
 
 abbrev pub invariant-loop-a : goal.invariant-loop-a

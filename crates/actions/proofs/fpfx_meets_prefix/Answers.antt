@@ -1,7 +1,6 @@
 -- With no prefix no FPFX may stand; with one any may.
 use mathlib.Core.Path.{sym, ap, ◌∙◌}
 use mathlib.Core.Bool.{not}
-use borrow.Author.Rules.{rules}
 use Rattle.actions.proofs.Fit.{no_prefix, some_prefix}
 use Rattle.actions.proofs.fpfx_meets_prefix.Goals as goal
 

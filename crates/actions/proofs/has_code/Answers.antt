@@ -1,11 +1,6 @@
 -- What is left of the list decides: the loop ends at its end or at the first that is looked for.
-use Prim.Native.Nat.{◌-◌, ◌≤◌}
 use native.Mathlib.Omega.{arith}
-use mathlib.Core.Path.{◌≡◌}
-use lib.ListN.{length, drop}
-use borrow.Author.Rules.{rules}
 use borrow.Author.Tests.{eq-eqb, ne_eqb}
-use Rattle.meaning.specs.Actions.{cas_of}
 use Rattle.actions.specs.Reading.{has_code}
 use Rattle.actions.proofs.Reading.{stop, step}
 use Rattle.actions.proofs.has_code.Goals as goal

@@ -3,7 +3,6 @@ use Prim.Native.Nat.{ℕ}
 use mathlib.Core.Path.{ap, ◌∙◌}
 use mathlib.Core.Bool.{not}
 use lib.Dec.{eqb}
-use borrow.Author.Rules.{rules}
 use Rattle.meaning.specs.Actions.{is_x, cas_of}
 use Rattle.actions.proofs.Fit.{some_counted}
 use Rattle.actions.proofs.has_x.Goals as goal

@@ -1,13 +1,9 @@
 -- What is left of the list decides: the loop ends at its end or at the first that is looked for.
 use Prim.Native.Nat.{◌-◌, ◌≤◌}
-use native.Mathlib.Omega.{arith}
-use mathlib.Core.Path.{◌≡◌, sym, ◌∙◌}
+use mathlib.Core.Path.{◌≡◌}
 use lib.ListN.{length, drop}
-use borrow.Author.Rules.{rules}
-use borrow.Author.Tests.{eq-eqb, ne_eqb}
 use Rattle.meaning.specs.Actions.{cas_of}
 use Rattle.meaning.specs.Groups.{is_set}
-use Rattle.actions.proofs.Reading.{stop, step}
 use Rattle.actions.proofs.is_set.Given as goal
 
 abbrev pub invariant-loop-a : goal.invariant-loop-a

@@ -1,5 +1,4 @@
 -- The list is empty exactly if its first code is 0.
-use borrow.Author.Rules.{rules}
 use Rattle.actions.proofs.Reading.{first_decides}
 use Rattle.actions.proofs.no_codes.Goals as goal
 

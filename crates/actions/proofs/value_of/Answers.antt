@@ -2,7 +2,6 @@
 use Prim.Native.Nat.{◌≤◌}
 use mathlib.Core.Path.{refl}
 use lib.ListN.{get_or-eq_default}
-use borrow.Author.Rules.{rules}
 use Rattle.meaning.specs.Actions.{value_of}
 use Rattle.actions.proofs.value_of.Goals as goal
 

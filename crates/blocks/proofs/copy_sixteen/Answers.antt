@@ -6,7 +6,6 @@ use native.Mathlib.Omega.{arith}
 use lib.ListN.{length, take, drop, length-take, length-drop}
 use lib.Seq.{length-take-le}
 use Rattle.meaning.specs.Basics.{written_over}
-use borrow.Author.Rules.{rules}
 use Rattle.blocks.proofs.EndianLaws.{Bytes, bytes_front, bytes_behind, block_back}
 use Rattle.blocks.proofs.OverLaws.{written_behind, two_parts}
 use Rattle.blocks.proofs.copy_sixteen.Goals as goal

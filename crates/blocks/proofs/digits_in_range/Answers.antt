@@ -1,5 +1,4 @@
 -- By the table that was made.
-use borrow.Author.Rules.{rules}
 use Rattle.blocks.proofs.MaskLaws.{masks_none}
 use Rattle.blocks.proofs.digits_in_range.Goals as goal
 

@@ -1,6 +1,5 @@
 -- Each answer is one law of the test, at what was read.
 use mathlib.Core.Path.{sym}
-use borrow.Author.Rules.{rules}
 use Rattle.blocks.proofs.RangeLaws.{range_empty, range_few, range_many, range_places}
 use Rattle.blocks.proofs.digits_in_range_by.Goals as goal
 

@@ -1,9 +1,7 @@
 -- At i the number of the bytes from there to the eighth is made (`Read`).
-use Prim.Native.Nat.{◌≤◌}
 use native.Mathlib.Omega.{arith}
-use lib.ListN.{length}
 use borrow.Author.Rules.{rules}
-use Rattle.blocks.proofs.EndianLaws.{Read, read_none, read_room, read_more, read_all}
+use Rattle.blocks.proofs.EndianLaws.{read_none, read_room, read_more, read_all}
 use Rattle.blocks.proofs.eight.Goals as goal
 
 pub loop-i-init : goal.loop-i-init

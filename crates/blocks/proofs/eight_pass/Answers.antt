@@ -1,6 +1,5 @@
 -- Eight bytes and their masks are disjoint exactly if their numbers are.
 use native.Mathlib.Omega.{arith}
-use borrow.Author.Rules.{rules}
 use Rattle.blocks.proofs.MaskLaws.{block_bits}
 use Rattle.blocks.proofs.eight_pass.Goals as goal
 

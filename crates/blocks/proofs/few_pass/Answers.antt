@@ -1,7 +1,5 @@
 -- Each answer is one law of the places, at what was found of them.
 use mathlib.Core.Path.{sym}
-use borrow.Author.Rules.{rules}
-use borrow.Author.Tests.{not-true, not-false}
 use Rattle.blocks.proofs.PlaceLaws.{few_full, few_wrong, few_unused}
 use Rattle.blocks.proofs.few_pass.Goals as goal
 

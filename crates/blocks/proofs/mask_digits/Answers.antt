@@ -1,12 +1,10 @@
 -- The places before i are digits, and the others unused.
-use Prim.Native.Nat.{ℕ, ◌-◌, ◌≤◌, zero-le}
+use Prim.Native.Nat.{ℕ, zero-le}
 use mathlib.Core.Path.{◌≡◌, ap, ◌∙◌}
 use mathlib.Core.List.{List}
 use native.Mathlib.Numerals.{add-one}
 use native.Mathlib.Omega.{arith}
 use lib.ListN.{length, set}
-use borrow.Author.Rules.{rules}
-use Rattle.blocks.specs.Places.{masks}
 use Rattle.blocks.proofs.MaskLaws.{length_masks, masks_more, masks_whole}
 use Rattle.blocks.proofs.mask_digits.Goals as goal
 

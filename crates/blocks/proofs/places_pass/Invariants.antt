@@ -1,14 +1,10 @@
 -- The places before i have passed (`PassedTo`); the last block may begin before i. What a window tells of its places is `window_pass`.
-use Prim.Native.Nat.{◌+◌, ◌-◌, ◌≤◌, zero-le}
-use mathlib.Core.Path.{◌≡◌, refl, sym, ap, ◌∙◌}
-use native.Mathlib.Omega.{arith}
+use Prim.Native.Nat.{◌+◌, ◌-◌, ◌≤◌}
+use mathlib.Core.Path.{◌≡◌}
 use lib.ListN.{length}
-use borrow.Author.Rules.{rules}
-use borrow.Author.Tests.{not-true, not-false}
 use Rattle.blocks.specs.Places.{mask_table}
 use Rattle.blocks.proofs.EndianLaws.{Bytes}
-use Rattle.blocks.proofs.PlaceLaws.{PassedTo, block_fails, block_passes, block_last}
-use Rattle.blocks.proofs.MaskLaws.{table_long, window_pass}
+use Rattle.blocks.proofs.PlaceLaws.{PassedTo}
 use Rattle.blocks.proofs.places_pass.Given as goal
 
 abbrev pub invariant-loop-i : goal.invariant-loop-i

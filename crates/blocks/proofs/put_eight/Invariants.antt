@@ -1,11 +1,9 @@
 -- At i the bytes before i are the number's (`Seam`), and those from there on are the bytes of what is left of it (`Left`).
 use Prim.Native.Nat.{◌-◌, ◌≤◌}
-use native.Mathlib.Omega.{arith}
 use lib.ListN.{length}
-use borrow.Author.Rules.{rules}
-use Rattle.buffer.proofs.Moves.{Seam, seam_none, seam_more, seam_all}
+use Rattle.buffer.proofs.Moves.{Seam}
 use Rattle.blocks.specs.Endian.{bytes_of}
-use Rattle.blocks.proofs.EndianLaws.{length_bytes, Left, left_none, left_byte, left_more}
+use Rattle.blocks.proofs.EndianLaws.{Left}
 use Rattle.blocks.proofs.put_eight.Given as goal
 
 abbrev pub invariant-loop-i : goal.invariant-loop-i

@@ -1,12 +1,11 @@
 -- The bytes before i have passed, so those from i on decide.
-use Prim.Native.Nat.{◌-◌, ◌≤◌, zero-le}
+use Prim.Native.Nat.{zero-le}
 use mathlib.Core.Path.{refl, sym}
 use native.Mathlib.Omega.{arith}
-use lib.ListN.{length, get_or}
-use borrow.Author.Rules.{rules}
+use lib.ListN.{get_or}
 use borrow.Author.Tests.{le-leb, lt-leb}
 use Rattle.buffer.specs.Bytes.{at_most}
-use Rattle.buffer.proofs.Passing.{Passed, fail, pass, done}
+use Rattle.buffer.proofs.Passing.{fail, pass, done}
 use Rattle.buffer.proofs.all_at_most.Goals as goal
 
 pub loop-i-init : goal.loop-i-init

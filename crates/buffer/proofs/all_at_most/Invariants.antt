@@ -1,12 +1,8 @@
 -- The bytes before i have passed, so those from i on decide.
-use Prim.Native.Nat.{◌-◌, ◌≤◌, zero-le}
-use mathlib.Core.Path.{refl, sym}
-use native.Mathlib.Omega.{arith}
-use lib.ListN.{length, get_or}
-use borrow.Author.Rules.{rules}
-use borrow.Author.Tests.{le-leb, lt-leb}
+use Prim.Native.Nat.{◌-◌, ◌≤◌}
+use lib.ListN.{length}
 use Rattle.buffer.specs.Bytes.{at_most}
-use Rattle.buffer.proofs.Passing.{Passed, fail, pass, done}
+use Rattle.buffer.proofs.Passing.{Passed}
 use Rattle.buffer.proofs.all_at_most.Given as goal
 
 abbrev pub invariant-loop-i : goal.invariant-loop-i

@@ -1,7 +1,6 @@
 -- At most 0 is 0.
 use mathlib.Core.Path.{◌∙◌}
 use Rattle.buffer.proofs.DigitLaws.{all_at_most_zero}
-use borrow.Author.Rules.{rules}
 use Rattle.buffer.proofs.all_zero.Goals as goal
 
 pub returns : goal.returns

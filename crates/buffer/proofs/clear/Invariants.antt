@@ -1,12 +1,8 @@
 -- At i the bytes before i are 0 and the others are as they were (`Seam`).
-use mathlib.Core.Path.{sym}
-use Prim.Native.Nat.{◌-◌, ◌<◌}
-use native.Mathlib.Omega.{arith}
-use borrow.Author.Rules.{rules}
+use Prim.Native.Nat.{◌-◌}
 use lib.ListN.{length}
 use Rattle.buffer.specs.Zeros.{zeros}
-use Rattle.buffer.proofs.ZeroLaws.{length_zeros, get_d_zeros}
-use Rattle.buffer.proofs.Moves.{Seam, seam_none, seam_more, seam_whole}
+use Rattle.buffer.proofs.Moves.{Seam}
 use Rattle.buffer.proofs.clear.Given as goal
 
 abbrev pub invariant-loop-i : goal.invariant-loop-i

@@ -1,10 +1,7 @@
 -- At i the bytes before i are `from`'s and the others are as they were (`Seam`).
-use mathlib.Core.Path.{refl}
 use Prim.Native.Nat.{◌-◌}
-use native.Mathlib.Omega.{arith}
-use borrow.Author.Rules.{rules}
 use lib.ListN.{length}
-use Rattle.buffer.proofs.Moves.{Seam, seam_none, seam_more, seam_all}
+use Rattle.buffer.proofs.Moves.{Seam}
 use Rattle.buffer.proofs.copy.Given as goal
 
 abbrev pub invariant-loop-i : goal.invariant-loop-i

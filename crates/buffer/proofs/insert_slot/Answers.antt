@@ -1,7 +1,6 @@
 -- One law over the width; slot `place` begins where slot `count` does, or before.
 use native.Mathlib.Omega.{arith}
 use Rattle.buffer.proofs.SlotLaws.{insert_part, times_within}
-use borrow.Author.Rules.{rules}
 use Rattle.buffer.proofs.insert_slot.Goals as goal
 
 pub overflow_mul-a : goal.overflow_mul-a

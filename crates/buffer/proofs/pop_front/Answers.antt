@@ -1,6 +1,5 @@
 -- The last w bytes are lent and cleared after the shift.
 use Rattle.buffer.proofs.Moves.{pop_parts}
-use borrow.Author.Rules.{rules}
 use Rattle.buffer.proofs.pop_front.Goals as goal
 
 pub returns : goal.returns

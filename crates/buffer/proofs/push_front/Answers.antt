@@ -1,7 +1,6 @@
 -- The copy writes over the bytes that the shift left at the front.
 use mathlib.Core.Path.{◌∙◌}
 use Rattle.buffer.proofs.Moves.{push_parts}
-use borrow.Author.Rules.{rules}
 use Rattle.buffer.proofs.push_front.Goals as goal
 
 pub returns : goal.returns

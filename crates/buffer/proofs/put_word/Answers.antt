@@ -1,6 +1,5 @@
 -- The two stores are the definition's own; both bytes are below 256 since v is below 65,536.
 use mathlib.Core.Path.{refl}
-use borrow.Author.Rules.{rules}
 use Rattle.buffer.specs.Bytes.{with_word}
 use Rattle.buffer.proofs.put_word.Goals as goal
 

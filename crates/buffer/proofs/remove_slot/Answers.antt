@@ -2,7 +2,6 @@
 use native.Mathlib.Omega.{arith}
 use Rattle.buffer.specs.Zeros.{zeros}
 use Rattle.buffer.proofs.SlotLaws.{remove_part, times_below}
-use borrow.Author.Rules.{rules}
 use Rattle.buffer.proofs.remove_slot.Goals as goal
 
 pub overflow_mul-a : goal.overflow_mul-a

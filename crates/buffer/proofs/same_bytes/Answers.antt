@@ -1,11 +1,7 @@
 -- What is left of both slices decides.
-use Prim.Native.Nat.{◌≤◌, ◌-◌}
-use mathlib.Core.Path.{◌≡◌, refl, sym}
+use mathlib.Core.Path.{refl, sym}
 use native.Mathlib.Omega.{arith}
-use lib.ListN.{length, drop}
-use Rattle.meaning.specs.Basics.{same_bytes}
 use Rattle.buffer.proofs.SameBytes.{same_length, same_again, same_differs, same_ends}
-use borrow.Author.Rules.{rules}
 use Rattle.buffer.proofs.same_bytes.Goals as goal
 
 pub returns-then-a-b : goal.returns-then-a-b

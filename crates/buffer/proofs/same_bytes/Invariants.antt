@@ -1,11 +1,8 @@
 -- What is left of both slices decides.
 use Prim.Native.Nat.{◌≤◌, ◌-◌}
-use mathlib.Core.Path.{◌≡◌, refl, sym}
-use native.Mathlib.Omega.{arith}
+use mathlib.Core.Path.{◌≡◌}
 use lib.ListN.{length, drop}
 use Rattle.meaning.specs.Basics.{same_bytes}
-use Rattle.buffer.proofs.SameBytes.{same_length, same_again, same_differs, same_ends}
-use borrow.Author.Rules.{rules}
 use Rattle.buffer.proofs.same_bytes.Given as goal
 
 abbrev pub invariant-loop-i : goal.invariant-loop-i

@@ -1,11 +1,10 @@
 -- At i the bytes before i have been moved, and what is read, w further up, is as it was (`Seam`).
 use mathlib.Core.Path.{◌≡◌, ap, ◌∙◌}
-use Prim.Native.Nat.{ℕ, ◌+◌, ◌-◌}
+use Prim.Native.Nat.{ℕ, ◌+◌}
 use native.Mathlib.Omega.{arith}
-use borrow.Author.Rules.{rules}
-use lib.ListN.{length, drop, get_or, length-drop}
+use lib.ListN.{drop, get_or, length-drop}
 use lib.Seq.{get_or-drop}
-use Rattle.buffer.proofs.Moves.{Seam, seam_none, seam_more, seam_all, past_seam}
+use Rattle.buffer.proofs.Moves.{seam_none, seam_more, seam_all, past_seam}
 use Rattle.buffer.proofs.shift_down.Goals as goal
 
 pub loop-i-init : goal.loop-i-init

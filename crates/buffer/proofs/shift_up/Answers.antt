@@ -1,9 +1,6 @@
 -- From the end: at i the bytes from i on have been moved (`Rise`).
-use Prim.Native.Nat.{◌-◌}
 use native.Mathlib.Omega.{arith}
-use borrow.Author.Rules.{rules}
-use lib.ListN.{length}
-use Rattle.buffer.proofs.Moves.{Rise, rise_none, rise_more, rise_all}
+use Rattle.buffer.proofs.Moves.{rise_none, rise_more, rise_all}
 use Rattle.buffer.proofs.shift_up.Goals as goal
 
 pub loop-i-init : goal.loop-i-init

@@ -1,9 +1,7 @@
 -- From the end: at i the bytes from i on have been moved (`Rise`).
 use Prim.Native.Nat.{◌-◌}
-use native.Mathlib.Omega.{arith}
-use borrow.Author.Rules.{rules}
 use lib.ListN.{length}
-use Rattle.buffer.proofs.Moves.{Rise, rise_none, rise_more, rise_all}
+use Rattle.buffer.proofs.Moves.{Rise}
 use Rattle.buffer.proofs.shift_up.Given as goal
 
 abbrev pub invariant-loop-i : goal.invariant-loop-i

@@ -1,9 +1,6 @@
 -- At i the numbers before i are 0 (`Zeroed`).
-use Prim.Native.Nat.{◌-◌}
 use native.Mathlib.Omega.{arith}
-use lib.ListN.{length}
-use borrow.Author.Rules.{rules}
-use Rattle.ledger.proofs.Clearing.{Zeroed, none_zeroed, zeroed_more, all_zeroed}
+use Rattle.ledger.proofs.Clearing.{none_zeroed, zeroed_more, all_zeroed}
 use Rattle.ledger.proofs.clear.Goals as goal
 
 pub loop-i-init : goal.loop-i-init

@@ -1,5 +1,4 @@
-use borrow.Author.Rules.{rules}
-use Rattle.meaning.proofs.Telling.{failed, passed, told}
+use Rattle.meaning.proofs.Telling.{told}
 use Rattle.ledger.proofs.Losses.{district_sized, far_district, ledger_out, no_records, district_answer}
 use Rattle.ledger.proofs.district_loss.Goals as goal
 

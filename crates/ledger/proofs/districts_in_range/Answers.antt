@@ -1,11 +1,8 @@
-use Prim.Native.Nat.{◌-◌, ◌≤◌}
 use borrow.Author.Rules.{rules}
 use mir.Syntax.{w64}
-use mir.Val.{to_z}
 use mir.ValLaws.{to_z-of_z}
-use Rattle.meaning.specs.Sizes.{DISTRICTS}
-use Rattle.meaning.proofs.Telling.{failed, passed, told}
-use Rattle.ledger.proofs.Ranges.{Left, district_stops, district_goes, districts_end}
+use Rattle.meaning.proofs.Telling.{told}
+use Rattle.ledger.proofs.Ranges.{district_stops, district_goes, districts_end}
 use Rattle.ledger.proofs.districts_in_range.Goals as goal
 
 pub totals_in_range-requires : goal.totals_in_range-requires

@@ -1,4 +1,3 @@
-use borrow.Author.Rules.{rules}
 use Rattle.ledger.proofs.Entering.{whole_addable, district_addable, entered_is}
 use Rattle.ledger.proofs.enter.Goals as goal
 

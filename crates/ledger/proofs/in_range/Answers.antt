@@ -1,7 +1,6 @@
-use borrow.Author.Rules.{rules}
 use mir.Syntax.{w64}
 use mir.ValLaws.{to_z-of_z}
-use Rattle.meaning.proofs.Telling.{failed, passed, told}
+use Rattle.meaning.proofs.Telling.{told}
 use Rattle.ledger.proofs.Ranges.{whole_out, whole_in, count_limit}
 use Rattle.ledger.proofs.in_range.Goals as goal
 

@@ -1,10 +1,6 @@
-use Prim.Native.Nat.{◌-◌, ◌≤◌}
-use mathlib.Core.Path.{◌≡◌, sym, ◌∙◌}
+use mathlib.Core.Path.{sym, ◌∙◌}
 use native.Mathlib.Omega.{arith}
-use borrow.Author.Rules.{rules}
-use Rattle.meaning.specs.Sizes.{DISTRICTS}
 use Rattle.meaning.proofs.Telling.{told}
-use Rattle.ledger.specs.Losses.{next_from}
 use Rattle.ledger.proofs.Losses.{next_here, next_goes, next_end}
 use Rattle.ledger.proofs.next_district.Goals as goal
 

@@ -1,11 +1,7 @@
 use Prim.Native.Nat.{◌-◌, ◌≤◌}
-use mathlib.Core.Path.{◌≡◌, sym, ◌∙◌}
-use native.Mathlib.Omega.{arith}
-use borrow.Author.Rules.{rules}
+use mathlib.Core.Path.{◌≡◌}
 use Rattle.meaning.specs.Sizes.{DISTRICTS}
-use Rattle.meaning.proofs.Telling.{told}
 use Rattle.ledger.specs.Losses.{next_from}
-use Rattle.ledger.proofs.Losses.{next_here, next_goes, next_end}
 use Rattle.ledger.proofs.next_district.Given as goal
 
 abbrev pub invariant-loop-d : goal.invariant-loop-d

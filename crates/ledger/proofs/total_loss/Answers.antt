@@ -1,5 +1,4 @@
-use borrow.Author.Rules.{rules}
-use Rattle.meaning.proofs.Telling.{failed, passed, told}
+use Rattle.meaning.proofs.Telling.{told}
 use Rattle.ledger.proofs.Losses.{whole_sized, total_out, total_answer}
 use Rattle.ledger.proofs.total_loss.Goals as goal
 

@@ -1,6 +1,6 @@
 use mir.Syntax.{w64}
 use mir.ValLaws.{to_z-of_z}
-use Rattle.meaning.proofs.Telling.{failed, passed, told}
+use Rattle.meaning.proofs.Telling.{told}
 use Rattle.ledger.proofs.Ranges.{within_limit, totals_over_lem, totals_due, totals_billed}
 use Rattle.ledger.proofs.totals_in_range.Goals as goal
 
