@@ -2,7 +2,7 @@
 #![tactic(auto)]
 
 ghost use Rattle.std.specs.Prelude.{◌≡◌, true, ◌≤◌, ◌<◌, length};
-ghost use Rattle.meaning.specs.Sizes.{PRICE-BODY, DISTRICTS};
+ghost use Rattle.meaning.specs.Sizes.{PRICE-BODY, DISTRICTS as DISTRICT-COUNT};
 ghost use Rattle.meaning.specs.Ledger.{ledger_of, totals_at, ledger_in_range};
 ghost use Rattle.meaning.specs.Records.{no_line, loss_line, total_line};
 ghost use Rattle.plan.specs.State.{state_of};
@@ -104,7 +104,7 @@ fn district_line(
     district: usize,
     output: &mut [u8],
 ) -> usize
-    requires { (ledger_in_range (ledger_of districts.now whole) ≡ true) × (district < DISTRICTS) × (LONGEST ≤ length output.old) }
+    requires { (ledger_in_range (ledger_of districts.now whole) ≡ true) × (district < DISTRICT-COUNT) × (LONGEST ≤ length output.old) }
     ensures { Writes (loss_line district (totals_at districts.now district)) output.old output.new result }
 {
     let loss = ledger::loss_of(ledger::totals_at(districts, district));

@@ -11,7 +11,7 @@ use lib.Dec.{eqb}
 use borrow.Author.Tests.{eq-eqb, ne_eqb, eqb-true}
 use borrow.Rule.Slice.PartMut.{put_mid, mid_of}
 use Rattle.meaning.specs.Sizes.{FILTER-BYTES, DIFFERENCE-FILTER-AT, LEFT-SET-AT, RIGHT-SET-AT, DIFFERENCE-BYTES}
-use Rattle.meaning.specs.Basics.{written_over, word_bytes}
+use Rattle.meaning.specs.Basics.{written_over, bytes_of_word}
 use Rattle.std.specs.Prelude.{if◌then◌else◌}
 use Rattle.meaning.specs.Rules.{Rule}
 use Rattle.meaning.specs.Plan.{code_passes, codes_pass}
@@ -53,13 +53,13 @@ entry_written (x ∷ rest) copied one two code kind left right l k c-is one-is t
     let tail : t ≡ get_or t 0 0 ∷ get_or t 1 0 ∷ get_or t 2 0 ∷ get_or t 3 0 ∷ [] = four t (length-drop FILTER-BYTES rest ∙ omega (arith, l)) in
     let first : put_mid DIFFERENCE-FILTER-AT FILTER-BYTES (x ∷ rest) copied ≡ (x ∷ code) ++ get_or t 0 0 ∷ get_or t 1 0 ∷ (get_or t 2 0 ∷ get_or t 3 0 ∷ []) =
     ap₂ (λ (a b : List ℕ). x ∷ (a ++ b)) whole tail in
-    let one_at : one ≡ (x ∷ code) ++ (word_bytes left ++ (get_or t 2 0 ∷ get_or t 3 0 ∷ [])) =
+    let one_at : one ≡ (x ∷ code) ++ (bytes_of_word left ++ (get_or t 2 0 ∷ get_or t 3 0 ∷ [])) =
     one-is ∙ (ap (λ (b : List ℕ). with_word b LEFT-SET-AT left) first ∙ word_between (x ∷ code) (get_or t 0 0) (get_or t 1 0) (get_or t 2 0 ∷ get_or t 3 0 ∷ []) LEFT-SET-AT left (omega (arith, k))) in
-    let before-right : length ((x ∷ code) ++ word_bytes left) ≡ RIGHT-SET-AT = length-append (x ∷ code) (word_bytes left) ∙ omega (arith, k) in
-    let two_at : two ≡ ((x ∷ code) ++ word_bytes left) ++ (word_bytes right ++ []) =
-    two_is ∙ (ap (λ (b : List ℕ). with_word b RIGHT-SET-AT right) (one_at ∙ sym (append_assoc (x ∷ code) (word_bytes left) (get_or t 2 0 ∷ get_or t 3 0 ∷ [])))
-    ∙ word_between ((x ∷ code) ++ word_bytes left) (get_or t 2 0) (get_or t 3 0) [] RIGHT-SET-AT right before-right) in
-    ap (λ (b : List ℕ). set b 0 kind) (two_at ∙ append_assoc (x ∷ code) (word_bytes left) (word_bytes right ++ []))
+    let before-right : length ((x ∷ code) ++ bytes_of_word left) ≡ RIGHT-SET-AT = length-append (x ∷ code) (bytes_of_word left) ∙ omega (arith, k) in
+    let two_at : two ≡ ((x ∷ code) ++ bytes_of_word left) ++ (bytes_of_word right ++ []) =
+    two_is ∙ (ap (λ (b : List ℕ). with_word b RIGHT-SET-AT right) (one_at ∙ sym (append_assoc (x ∷ code) (bytes_of_word left) (get_or t 2 0 ∷ get_or t 3 0 ∷ [])))
+    ∙ word_between ((x ∷ code) ++ bytes_of_word left) (get_or t 2 0) (get_or t 3 0) [] RIGHT-SET-AT right before-right) in
+    ap (λ (b : List ℕ). set b 0 kind) (two_at ∙ append_assoc (x ∷ code) (bytes_of_word left) (bytes_of_word right ++ []))
 
 -- BY ITS KIND
 
@@ -128,7 +128,7 @@ code_long m i e h =
 
 pub entry_long : (k : ℕ) (code : List ℕ) (left right : ℕ) → length code ≡ FILTER-BYTES → length (entry k code left right) ≡ DIFFERENCE-BYTES
 unfolding entry
-entry_long k code left right l = omega (arith, length-append code (word_bytes left ++ word_bytes right), l)
+entry_long k code left right l = omega (arith, length-append code (bytes_of_word left ++ bytes_of_word right), l)
 
 -- and so its entry has an entry's
 pub entry_by_long : (left right : List ℕ) (k i j : ℕ) → Placed left right k i j → length (entry_by k (rule_in (plan_of left) i) (rule_in (plan_of right) j)) ≡ DIFFERENCE-BYTES

@@ -7,11 +7,12 @@ use native.Mathlib.Nat.{div-add-mod', mod-lt}
 use lib.ListN.{length, take, drop, get_or, length-drop}
 use lib.Seq.{take_all, length-take-le}
 use lib.Dec.{T, lit<}
-use Rattle.meaning.specs.Basics.{all, is_zero, word, part, word_bytes}
+use Rattle.meaning.specs.Basics.{all, is_zero, word, part}
 use Rattle.buffer.specs.Zeros.{zeros}
 use Rattle.buffer.proofs.ZeroLaws.{all_zeros}
 use Rattle.actions.proofs.Lists.{next_two}
 use Rattle.blocks.proofs.EndianLaws.{Bytes}
+use Rattle.plan.specs.Layout.{word_bytes}
 
 -- a number's two bytes are those that it was read from
 pub word_again : (b : List ℕ) (at : ℕ) → at + 1 < length b → Bytes b → word_bytes (word b at) ++ drop (at + 2) b ≡ drop at b

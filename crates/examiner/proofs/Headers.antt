@@ -7,7 +7,7 @@ use lib.ListN.{length, take, drop}
 use lib.Seq.{take-add, take_at, drop-drop, drop_at}
 use lib.Dec.{T, eqb, eqb→eq, leb, leb→le, le→leb}
 use Rattle.meaning.specs.Sizes.{ROOMS-BYTES, SETTINGS-BYTES, OPENING-BYTES, SETTINGS-AT, SETTINGS-END, SETS-AT}
-use Rattle.meaning.specs.Basics.{all, is_zero, word, within, part, begins_with, word_bytes}
+use Rattle.meaning.specs.Basics.{all, is_zero, word, within, part, begins_with}
 use Rattle.meaning.specs.Settings.{rooms_of, rooms_in_range, bytes_needed, settings_in_range}
 use Rattle.meaning.specs.Plan.{Plan}
 use Rattle.meaning.proofs.Tests.{and_left, and_right, each_all, all_at}
@@ -15,7 +15,7 @@ use Rattle.meaning.proofs.Soundness.{Sound}
 use Rattle.buffer.specs.Zeros.{zeros}
 use Rattle.buffer.proofs.ZeroLaws.{length_zeros, zeros_pass}
 use Rattle.filter.proofs.RuleLaws.{length_rules}
-use Rattle.plan.specs.Layout.{mark, header_image, rooms_at, size_of, set_room, rule_room, rule_count, rules_from, plan_of}
+use Rattle.plan.specs.Layout.{word_bytes, mark, header_image, rooms_at, size_of, set_room, rule_room, rule_count, rules_from, plan_of}
 use Rattle.plan.proofs.ImageLaws.{two_unused}
 use Rattle.examiner.specs.Examined.{fixed_tests, fixed_pass, opening_tests, opening_passes, size_tests, sizes_pass, header_tests, header_passes, Sized}
 use Rattle.blocks.proofs.EndianLaws.{Bytes}

@@ -9,7 +9,7 @@ use lib.ListN.{length, take, drop, get_or, take-append-drop}
 use lib.Seq.{drop_at, drop-drop, length-take-le}
 use lib.Dec.{T, eqb→eq, le→leb}
 use Rattle.meaning.specs.Sizes.{SET-NUMBER-BYTES, CONTENT-BYTES, PREFIX-AT, LENGTH-AT, FILTER-BYTES, SET-AT, RULE-BODY, CONTENT-AT, COUNT-AT, SET-WIDTH, RULE-WIDTH}
-use Rattle.meaning.specs.Basics.{all, is_zero, word, part, word_bytes}
+use Rattle.meaning.specs.Basics.{all, is_zero, word, part}
 use Rattle.meaning.specs.Filters.{Filter, filter_of, filter_in_range}
 use Rattle.meaning.specs.Rules.{Rule}
 use Rattle.meaning.specs.Actions.{actions_of}
@@ -21,7 +21,7 @@ use Rattle.buffer.specs.Slots.{Wide}
 use Rattle.filter.specs.Slots.{FilterBytes, prefix_fits, rule_of}
 use Rattle.filter.proofs.FilterLaws.{range_bytes, prefix_length}
 use Rattle.filter.proofs.RuleLaws.{filter_in_lem}
-use Rattle.plan.specs.Layout.{rule_image, slots_of}
+use Rattle.plan.specs.Layout.{word_bytes, rule_image, slots_of}
 use Rattle.plan.proofs.ImageLaws.{rule_back}
 use Rattle.examiner.specs.Examined.{set_fits, rule_tests, rule_test}
 use Rattle.blocks.proofs.EndianLaws.{Bytes}

@@ -10,7 +10,7 @@ use lib.Seq.{drop-cons, drop-drop, take_at, drop_at, length-take-le, get_or-take
 use lib.Dec.{T, eqb, eqb→eq, lit<, lit≤}
 use borrow.Author.Tests.{eq-eqb, ne_eqb}
 use Rattle.meaning.specs.Sizes.{CONTENT-BYTES, CONTENT-AT, COUNT-AT, SET-WIDTH}
-use Rattle.meaning.specs.Basics.{all, all_of, is_zero, part, word_bytes}
+use Rattle.meaning.specs.Basics.{all, all_of, is_zero, part}
 use Rattle.std.specs.Prelude.{if◌then◌else◌}
 use Rattle.meaning.specs.Actions.{actions_of, content_in_range}
 use Rattle.meaning.specs.Groups.{groups_hold}
@@ -21,7 +21,7 @@ use Rattle.buffer.specs.Zeros.{zeros}
 use Rattle.buffer.specs.Slots.{slots}
 use Rattle.buffer.proofs.SlotLaws.{slot_at, length_slots}
 use Rattle.buffer.proofs.ZeroLaws.{all_zeros}
-use Rattle.plan.specs.Layout.{slot_image, slot_of, slots_of}
+use Rattle.plan.specs.Layout.{word_bytes, slot_image, slot_of, slots_of}
 use Rattle.examiner.specs.Examined.{held_tests, slot_test}
 use Rattle.examiner.proofs.Bytes.{last_zeros}
 

@@ -5,7 +5,7 @@ ghost use Rattle.std.specs.Prelude.{◌≡◌, [], ◌∷◌, ◌+◌, ◌≤◌
 ghost use Rattle.meaning.specs.Sizes.{SETTINGS-BYTES};
 ghost use Rattle.meaning.specs.Basics.{part, digits_of};
 ghost use Rattle.meaning.specs.Settings.{settings_of, lookup_of};
-ghost use Rattle.meaning.specs.Actions.{LAST-CONDITIONED, RN, cas_of, codes_of};
+ghost use Rattle.meaning.specs.Actions.{LAST-CONDITIONED, RN as RN-CODE, cas_of, codes_of};
 ghost use Rattle.meaning.specs.Conditioning.{value_from};
 ghost use Rattle.meaning.specs.Services.{join};
 ghost use Rattle.conditioning.specs.Marks.{PLACES};
@@ -83,7 +83,7 @@ fn string_if(set: bool, source: &[u8], at: usize, width: usize) -> Span
 // RN where CDPNNP was carried out: the entity for kind 2, DFLTRN for kind 3.
 fn routing_number(source: &[u8], ported: bool) -> Span
     requires { length source.now ≡ SOURCE-BYTES }
-    ensures { Lies (rn_of (settings_of (settings_in source.now)) (lookup_of (lookup_in source.now)) (RN ∷ []) ported) source.now result }
+    ensures { Lies (rn_of (settings_of (settings_in source.now)) (lookup_of (lookup_in source.now)) (RN-CODE ∷ []) ported) source.now result }
 {
     let kind = source[LOOKUP_AT];
     if kind == 2 {

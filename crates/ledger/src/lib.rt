@@ -3,7 +3,7 @@
 
 ghost use Rattle.std.specs.Prelude.{◌≡◌, true, ◌-◌, ◌≤◌, ◌<◌, pos, length, replicate};
 ghost use Rattle.std.specs.Int.Signed.{le_z};
-ghost use Rattle.meaning.specs.Sizes.{DISTRICTS};
+ghost use Rattle.meaning.specs.Sizes.{DISTRICTS as DISTRICT-COUNT};
 ghost use Rattle.meaning.specs.Ledger.{LEDGER-LIMIT, ledger_of, totals_at, sum_in_range, totals_in_range, districts_in_range, ledger_in_range, plus, with_totals, entered, cents, loss_in, has_records, loss_read, total_read};
 ghost use Rattle.meaning.specs.Answers.{loss_given};
 ghost use Rattle.ledger.specs.Entries.{entry_for, Enterable, Addable};
@@ -55,7 +55,7 @@ fn totals_in_range(most: i64, t: Totals) -> bool
 
 // What a ledger holds of a district.
 pub fn totals_at(districts: &[i64; LEDGER_NUMBERS], district: usize) -> Totals
-    requires { district < DISTRICTS }
+    requires { district < DISTRICT-COUNT }
     ensures { result ≡ totals_at districts.now district }
 {
     let i = 3 * district;
@@ -74,7 +74,7 @@ pub fn totals_at(districts: &[i64; LEDGER_NUMBERS], district: usize) -> Totals
 // The range of every district of a ledger of `most` records.
 fn districts_in_range(districts: &[i64; LEDGER_NUMBERS], most: i64) -> bool
     requires { le_z most (pos LEDGER-LIMIT) ≡ true }
-    ensures { result ≡ districts_in_range most districts.now 0 DISTRICTS }
+    ensures { result ≡ districts_in_range most districts.now 0 DISTRICT-COUNT }
 {
     let mut d: usize = 0;
     while d < DISTRICTS {
@@ -119,7 +119,7 @@ fn plus(t: Totals, due: usize, billed: usize) -> Totals
 
 // A district's totals put in their places.
 fn put_totals(districts: &mut [i64; LEDGER_NUMBERS], district: usize, t: Totals)
-    requires { district < DISTRICTS }
+    requires { district < DISTRICT-COUNT }
     ensures { districts.new ≡ with_totals district t districts.old }
 {
     let i = 3 * district;
@@ -210,8 +210,8 @@ pub fn total_loss(districts: &[i64; LEDGER_NUMBERS], whole: Totals) -> LossAnswe
 
 // The first district from `from` on that has records; behind the last where none has.
 pub fn next_district(districts: &[i64; LEDGER_NUMBERS], from: usize) -> usize
-    requires { from ≤ DISTRICTS }
-    ensures { result ≡ next_from districts.now from (DISTRICTS - from) }
+    requires { from ≤ DISTRICT-COUNT }
+    ensures { result ≡ next_from districts.now from (DISTRICT-COUNT - from) }
 {
     let mut d = from;
     while d < DISTRICTS {

@@ -3,7 +3,7 @@ use Prim.Native.Nat.{ℕ}
 use mathlib.Core.Path.{◌≡◌, refl}
 use mathlib.Core.List.{List, [], ◌∷◌, ◌++◌, map}
 use mathlib.Core.Option.{Option, none, some}
-use Rattle.meaning.specs.Basics.{word_bytes}
+use Rattle.meaning.specs.Basics.{bytes_of_word}
 use Rattle.meaning.specs.Rules.{Rule}
 use Rattle.meaning.specs.Plan.{Plan}
 use Rattle.meaning.specs.Compare.{Difference, left_only, right_only, both, differ, differences, entry, difference_bytes, count_in, comparison}
@@ -21,7 +21,7 @@ sides = 0
 -- ENTRIES
 
 -- "Two-byte numbers: high byte first"
-pub high_first : word_bytes 258 ≡ 1 ∷ 2 ∷ []
+pub high_first : bytes_of_word 258 ≡ 1 ∷ 2 ∷ []
 high_first = refl
 
 -- NATL 2/8 under set 257, and under set 0

@@ -69,8 +69,8 @@ abbrev pub word : List ℕ → ℕ → ℕ
 word b at = get_or b at 0 * 256 + get_or b (at + 1) 0
 
 -- "Two-byte numbers: high byte first": the two bytes of one
-abbrev pub word_bytes : ℕ → List ℕ
-word_bytes n = n / 256 ∷ n % 256 ∷ []
+abbrev pub bytes_of_word : ℕ → List ℕ
+bytes_of_word n = n / 256 ∷ n % 256 ∷ []
 
 -- C-11: "4 bytes, high byte first as in every number here": the number at place `at`
 abbrev pub quad : List ℕ → ℕ → ℕ

@@ -4,7 +4,7 @@ use Rattle.std.specs.Prelude.{ℕ, ◌*◌, ◌≡◌, ◌↔◌, ◌≢◌, Boo
 use mathlib.Core.List.{List, [], ◌∷◌, ◌++◌, map, Memᴰ}
 use Rattle.std.proofs.Math.Option.{Option, none, some}
 use Rattle.meaning.specs.Sizes.{DIFFERENCE-BYTES}
-use Rattle.meaning.specs.Basics.{any, same_bytes, word_bytes}
+use Rattle.meaning.specs.Basics.{any, same_bytes, bytes_of_word}
 use Rattle.std.specs.Prelude.{if◌then◌else◌}
 use Rattle.meaning.specs.Refusals.{PLAN, ROOM}
 use Rattle.meaning.specs.Settings.{Number}
@@ -72,7 +72,7 @@ NO-SET = 65535
 
 -- "the filter in 19; the left and right set in 2 each"
 unfoldable pub entry : ℕ → List ℕ → ℕ → ℕ → List ℕ
-entry kind code left right = kind ∷ code ++ (word_bytes left ++ word_bytes right)
+entry kind code left right = kind ∷ code ++ (bytes_of_word left ++ bytes_of_word right)
 
 -- "An entry is 24 bytes"
 abbrev pub difference_bytes : Difference → List ℕ

@@ -1,6 +1,6 @@
 // Every width of a body and of the plan's memory, and every place in them that more than one crate looks at: the twin of specs/Sizes.antt, name for name.
 ghost use Rattle.std.specs.Prelude.{◌≡◌};
-ghost use Rattle.meaning.specs.Sizes.{sizes};
+ghost use Rattle.meaning.specs.Sizes.{sizes, difference_sizes};
 
 // AN OPENING: rooms, and the settings.
 pub const ROOMS_BYTES: usize = 4;
@@ -157,8 +157,8 @@ pub const RUN_RULES: usize = 512;
 
 pub const RUN_BYTES: usize = SETS_AT + SET_WIDTH * RUN_SETS + RULE_WIDTH * RUN_RULES;
 
-// All of them, in the order of this page: each is its twin.
-pub fn sizes() -> [usize; 69]
+// All of them but those of an entry for a difference, in the order of this page: each is its twin.
+pub fn sizes() -> [usize; 65]
     ensures { result ≡ sizes }
 {
     [
@@ -188,10 +188,6 @@ pub fn sizes() -> [usize; 69]
         FILTER_BYTES,
         SET_AT,
         RULE_BODY,
-        DIFFERENCE_FILTER_AT,
-        LEFT_SET_AT,
-        RIGHT_SET_AT,
-        DIFFERENCE_BYTES,
         DIALLED_AT,
         DIALLED_DIGITS_AT,
         LOOKUP_AT,
@@ -231,5 +227,17 @@ pub fn sizes() -> [usize; 69]
         RUN_SETS,
         RUN_RULES,
         RUN_BYTES,
+    ]
+}
+
+// Those of an entry for a difference: each is its twin.
+pub fn difference_sizes() -> [usize; 4]
+    ensures { result ≡ difference_sizes }
+{
+    [
+        DIFFERENCE_FILTER_AT,
+        LEFT_SET_AT,
+        RIGHT_SET_AT,
+        DIFFERENCE_BYTES,
     ]
 }

@@ -11,7 +11,7 @@ use lib.ListN.{length, take, drop, get_or, set, replicate, length-append, length
 use lib.Seq.{take_at, drop_at, take-append-add, drop-append-add, append_snoc, set_at, length-take-le, drop-drop}
 use borrow.Rule.Slice.PartMut.{put_mid, mid_of, Post-is, mid_len}
 use Rattle.meaning.specs.Sizes.{ROOMS-BYTES, SETTINGS-BYTES, CONTENT-BYTES, FILTER-BYTES, SET-AT, RULE-BODY, SETTINGS-AT, SETTINGS-END, SETS-AT, CONTENT-AT, COUNT-AT, SET-WIDTH, RULE-WIDTH}
-use Rattle.meaning.specs.Basics.{written_over, word_bytes}
+use Rattle.meaning.specs.Basics.{written_over}
 use Rattle.meaning.specs.Settings.{rooms_of, bytes_needed}
 use Rattle.meaning.specs.Rules.{Rule}
 use Rattle.meaning.specs.Plan.{Plan, rooms_in, fresh, with_slot, with_rules}
@@ -24,7 +24,7 @@ use Rattle.buffer.specs.Zeros.{zeros}
 use Rattle.buffer.specs.Slots.{slots, flat, Wide, with_slots, insert_at, remove_at}
 use Rattle.buffer.proofs.ZeroLaws.{length_zeros, zeros_add}
 use Rattle.buffer.proofs.SlotLaws.{flat_append, length_flat, slots_flat, slot_at, set_bytes}
-use Rattle.plan.specs.Layout.{mark, header_image, slot_image, rule_image, sets_image, rules_image, image, set_room, rule_room, rule_count, plan_of}
+use Rattle.plan.specs.Layout.{word_bytes, mark, header_image, slot_image, rule_image, sets_image, rules_image, image, set_room, rule_room, rule_count, plan_of}
 use Rattle.plan.specs.State.{sound_of, rest_of}
 use Rattle.plan.specs.Edits.{rule_with, renamed_at}
 use Rattle.plan.proofs.ImageLaws.{wide_sets, wide_rules, rule_passes, codes, code_size, header_size, sets_size, rule_area_lem}

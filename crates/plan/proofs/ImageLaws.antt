@@ -11,7 +11,7 @@ use lib.ListN.{length, take, drop, get_or, length-append, length-take, length-dr
 use lib.Seq.{take_at, drop_at, take-length, drop-append-le, take-append-le, drop-drop, get_or-drop, length-take-le}
 use lib.Dec.{T, leb, eqb→eq, leb→le, le→leb}
 use Rattle.meaning.specs.Sizes.{ROOMS-BYTES, SETTINGS-BYTES, CONTENT-BYTES, FILTER-BYTES, SET-AT, RULE-BODY, SETTINGS-AT, SETTINGS-END, SETS-AT, COUNT-AT, SET-WIDTH, RULE-WIDTH}
-use Rattle.meaning.specs.Basics.{all, all_of, is_zero, word, part, word_bytes}
+use Rattle.meaning.specs.Basics.{all, all_of, is_zero, word, part}
 use Rattle.std.specs.Prelude.{if◌then◌else◌}
 use Rattle.meaning.specs.Settings.{Rooms, rooms_of, bytes_needed}
 use Rattle.meaning.specs.Rules.{Rule}
@@ -24,7 +24,7 @@ use Rattle.buffer.specs.Slots.{slots, flat, Wide}
 use Rattle.buffer.proofs.ZeroLaws.{length_zeros}
 use Rattle.buffer.proofs.SlotLaws.{length_flat, slots_flat}
 use Rattle.filter.specs.Slots.{rule_of, rules_of}
-use Rattle.plan.specs.Layout.{mark, header_image, slot_image, rule_image, sets_image, rules_image, image, rooms_at, size_of, set_room, rule_room, rule_count, slot_of, slots_of, plan_of}
+use Rattle.plan.specs.Layout.{word_bytes, mark, header_image, slot_image, rule_image, sets_image, rules_image, image, rooms_at, size_of, set_room, rule_room, rule_count, slot_of, slots_of, plan_of}
 use Rattle.plan.specs.State.{sound_tests, sound_of, state_of, rest_of}
 
 -- two bytes of a number are the number

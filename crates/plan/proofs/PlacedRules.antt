@@ -7,7 +7,7 @@ use mathlib.Core.Option.{some}
 use native.Mathlib.Omega.{arith}
 use lib.ListN.{length, take, drop, get_or, length-drop}
 use lib.Seq.{length-take-le}
-use Rattle.meaning.specs.Sizes.{PREFIX-AT, RULE-WIDTH}
+use Rattle.meaning.specs.Sizes.{FILTER-BYTES, PREFIX-AT, RULE-WIDTH}
 use Rattle.meaning.specs.Basics.{is_some}
 use Rattle.meaning.specs.Filters.{Filter}
 use Rattle.meaning.specs.Rules.{Rule, filter_in, rules_in_order}
@@ -57,9 +57,17 @@ module _ (m : List ℕ) (k : ℕ) (below : k < rule_count m) where
       record {
         long = rw w (length-take-le RULE-WIDTH (drop (RULE-WIDTH * k) area) l);
         bytes = slot_bytes (rule_count m) k area part.area below;
-        code = rw w (sym (ap (λ (r : Rule). r.code) there));
         filter = rw w (sym (ap filter_in there ∙ filter_in_lem (take RULE-WIDTH (drop (RULE-WIDTH * k) area))));
       }
+
+  -- it begins with the bytes of the rule's filter
+  pub slot_code : (area : List ℕ) → RulesPart m area → take FILTER-BYTES (take (RULE-WIDTH * k + RULE-WIDTH - RULE-WIDTH * k) (drop (RULE-WIDTH * k) area)) ≡ (rule_placed m k).code
+  unfolding rule_of
+  slot_code area part =
+      let w : RULE-WIDTH * k + RULE-WIDTH - RULE-WIDTH * k ≡ RULE-WIDTH = omega arith in
+      let there : rule_placed m k ≡ rule_of (take RULE-WIDTH (drop (RULE-WIDTH * k) area)) =
+      ap (λ (rs : List Rule). get_or rs k no_rule) (sym part.rules) ∙ rule_there (rule_count m) k area below in
+      rw w (sym (ap (λ (r : Rule). r.code) there))
 
   pub place_named : sound_of m ≡ true → NamesHeld (plan_of m) (rule_placed m k)
   place_named e =

@@ -1,8 +1,8 @@
 -- How a plan lies in the lent bytes (docs/LAYOUT.md): its image, and the plan that bytes hold.
-use Rattle.std.specs.Prelude.{ℕ, ◌+◌, ◌-◌, ◌*◌, Bool, true, false, ◌&&◌, List, [], ◌∷◌, ◌++◌, map, length, take, drop, get_or}
+use Rattle.std.specs.Prelude.{ℕ, ◌+◌, ◌-◌, ◌*◌, ◌/◌, ◌%◌, Bool, true, false, ◌&&◌, List, [], ◌∷◌, ◌++◌, map, length, take, drop, get_or}
 use Rattle.std.proofs.Math.Option.{Option, none, some}
 use Rattle.meaning.specs.Sizes.{ROOMS-BYTES, SETTINGS-BYTES, CONTENT-BYTES, RULE-BODY, RULES-AT, ROOMS-AT, SETTINGS-AT, SETTINGS-END, SETS-AT, CONTENT-AT, COUNT-AT, SET-WIDTH, RULE-WIDTH}
-use Rattle.meaning.specs.Basics.{is_zero, word, word_bytes, part}
+use Rattle.meaning.specs.Basics.{is_zero, word, part}
 use Rattle.std.specs.Prelude.{if◌then◌else◌}
 use Rattle.meaning.specs.Settings.{Rooms, rooms_of, bytes_needed}
 use Rattle.meaning.specs.Rules.{Rule}
@@ -16,6 +16,10 @@ use Rattle.filter.specs.Slots.{rules_of}
 -- the mark of this build, `NPP2`
 abbrev pub mark : List ℕ
 mark = 78 ∷ 80 ∷ 80 ∷ 50 ∷ []
+
+-- "Two-byte numbers: high byte first"
+abbrev pub word_bytes : ℕ → List ℕ
+word_bytes n = n / 256 ∷ n % 256 ∷ []
 
 -- mark 4, count of rules 2, unused 2, rooms, settings, and unused bytes up to where the sets begin
 unfoldable pub header_image : Plan → List ℕ

@@ -37,11 +37,10 @@ pub record Content (p : Plan) (n : ℕ) (r : List ℕ) : Type 0 where
 
 -- THE RULE AT A PLACE
 
--- s is the slot of rule r: it begins with the bytes of r's filter
+-- s is the slot of rule r
 pub record RuleSlot (r : Rule) (s : List ℕ) : Type 0 where
   pub long : length s ≡ RULE-WIDTH
   pub bytes : FilterBytes s
-  pub code : take FILTER-BYTES s ≡ r.code
   pub filter : filter_of s ≡ filter_in r
 
 -- n is how many digits the prefix of rule r has

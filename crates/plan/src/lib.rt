@@ -1,7 +1,7 @@
 // The plan memory: readers in the plan's own words, and the edits, over a sound plan.
 #![tactic(auto)]
 
-ghost use Rattle.std.specs.Prelude.{◌≡◌, true, ◌++◌, ◌+◌, ◌*◌, ◌≤◌, ◌<◌, length, drop, get_or};
+ghost use Rattle.std.specs.Prelude.{◌≡◌, true, ◌++◌, ◌+◌, ◌*◌, ◌≤◌, ◌<◌, length, take, drop, get_or};
 ghost use Rattle.std.proofs.Math.Option.{none, some};
 ghost use Rattle.meaning.specs.Sizes.{ROOMS-BYTES, SETTINGS-BYTES, CONTENT-BYTES, FILTER-BYTES, HEADER-BYTES, SETS-AT, SET-WIDTH, RULE-WIDTH};
 ghost use Rattle.meaning.specs.Basics.{is_some, count, word};
@@ -139,7 +139,8 @@ pub fn set_named(memory: &[u8], place: RulePlace) -> SetNumber
 // The slot of the rule at a place.
 pub fn rule_slot<'a>(memory: &'a [u8], place: RulePlace) -> &'a [u8]
     requires { (sound_of memory.now ≡ true) × (place.0 < rule_count memory.now) }
-    ensures { RuleSlot (get_or (plan_of memory.now).rules place.0 no_rule) result.now }
+    ensures slot { RuleSlot (get_or (plan_of memory.now).rules place.0 no_rule) result.now }
+    ensures code { take FILTER-BYTES result.now ≡ (get_or (plan_of memory.now).rules place.0 no_rule).code }
 {
     let area = rules(memory);
     let k = place.0 as usize;

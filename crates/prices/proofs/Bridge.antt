@@ -8,7 +8,7 @@ use lib.ListN.{length, take, drop, length-drop, take-append-drop}
 use lib.Seq.{drop_at, drop-drop}
 use lib.Dec.{T, leb→le, le→leb, eqb→eq}
 use Rattle.meaning.specs.Sizes.{RULE-WIDTH, PRICE-ROOM, ROWS-AT, PRICES-BYTES}
-use Rattle.meaning.specs.Basics.{all, is_zero, word, word_bytes}
+use Rattle.meaning.specs.Basics.{all, is_zero, word}
 use Rattle.meaning.specs.Filters.{filter_of, is_before}
 use Rattle.meaning.specs.Rules.{filter_in, rules_in_order}
 use Rattle.meaning.specs.Prices.{row_passes, rows_in_order}
@@ -29,6 +29,7 @@ use Rattle.prices.specs.Examined.{row_test, next_test, following, slots_pass, ex
 use Rattle.prices.proofs.RowSlots.{row_reads, row_image_lem, image_passes}
 use Rattle.prices.proofs.RowRules.{as_rule, order_same}
 use Rattle.prices.proofs.ImageLaws.{Passes, passes_of, rows_long, free, image_area, InRange, rows_many, in_range_is, slots_are}
+use Rattle.plan.specs.Layout.{word_bytes}
 
 -- EACH SLOT AND THE NEXT
 

@@ -9,7 +9,7 @@ use lib.Seq.{drop_at, take_all, length-take-le}
 use lib.Dec.{T, le→leb}
 use borrow.Rule.Slice.PartMut.{put_mid, mid_of}
 use Rattle.meaning.specs.Sizes.{PREFIX-AT, CODE-BYTES, PRICE-BODY, RULE-WIDTH, PRICE-ROOM, ROWS-AT, PRICE-AT}
-use Rattle.meaning.specs.Basics.{written_over, word, quad, digits_of, padded, word_bytes}
+use Rattle.meaning.specs.Basics.{written_over, word, quad, digits_of, padded}
 use Rattle.meaning.specs.Filters.{filter_of}
 use Rattle.meaning.specs.Prices.{PriceRow, row_given, row_ranges, row_in_range, row_passes}
 use Rattle.meaning.proofs.Tests.{true_is, each_all, all_at, digits_few}
@@ -25,6 +25,7 @@ use Rattle.prices.specs.Layout.{quad_bytes, row_image, prices_image, row_of, row
 use Rattle.prices.specs.Edits.{RowSlot}
 use Rattle.prices.proofs.RowSlots.{code_digits, code_back, quad_again, pass_tests, row_size, row_back, image_passes, row_filter, slot_filter, slot_bytes}
 use Rattle.prices.proofs.ImageLaws.{rows_long, free, image_area, InRange, slots_are}
+use Rattle.plan.specs.Layout.{word_bytes}
 
 -- THE ROW THAT A BODY GIVES
 

@@ -10,7 +10,7 @@ use lib.ListN.{length, take, drop, get_or, replicate, length-append, length-drop
 use lib.Seq.{take_at, drop_at, drop-drop, drop-cons, get_or-take, get_or-drop, length-take-le}
 use lib.Dec.{T, leb, leb→le, le→leb, eqb→eq, lit<}
 use Rattle.meaning.specs.Sizes.{PREFIX-AT, LENGTH-AT, CODE-BYTES, RULE-WIDTH, PRICE-AT, PRICE-END}
-use Rattle.meaning.specs.Basics.{all, within, is_zero, is_digit, word, quad, part, digits_of, digits_in_range, padded, word_bytes}
+use Rattle.meaning.specs.Basics.{all, within, is_zero, is_digit, word, quad, part, digits_of, digits_in_range, padded}
 use Rattle.meaning.specs.Filters.{Filter, filter_of}
 use Rattle.meaning.specs.Prices.{PriceRow, PRICE-LIMIT, row_passes}
 use Rattle.meaning.proofs.Tests.{and_left, and_right, and_both, each_all, all_at, part_length, digits_few, digits_said}
@@ -22,6 +22,7 @@ use Rattle.blocks.proofs.EndianLaws.{Bytes}
 use Rattle.examiner.proofs.Bytes.{word_again}
 use Rattle.prices.specs.Layout.{quad_bytes, row_image, row_of}
 use Rattle.prices.specs.Examined.{row_tests, row_test}
+use Rattle.plan.specs.Layout.{word_bytes}
 
 -- A PREFIX AS A DIGIT STRING
 

@@ -2,11 +2,12 @@
 use Rattle.std.specs.Prelude.{ℕ, ◌-◌, ◌*◌, ◌/◌, ◌%◌, Bool, List, [], ◌∷◌, ◌++◌, map, length, drop, eqb}
 use Rattle.std.proofs.Math.Option.{Option, none, some}
 use Rattle.meaning.specs.Sizes.{PREFIX-AT, CODE-BYTES, RULE-WIDTH, PRICE-ROOM, ROWS-AT, PRICE-AT, PRICES-BYTES}
-use Rattle.meaning.specs.Basics.{all_of, same_bytes, word, quad, part, digits_of, padded, word_bytes}
+use Rattle.meaning.specs.Basics.{all_of, same_bytes, word, quad, part, digits_of, padded}
 use Rattle.std.specs.Prelude.{if◌then◌else◌}
 use Rattle.meaning.specs.Prices.{PriceRow, prices_pass}
 use Rattle.buffer.specs.Zeros.{zeros}
 use Rattle.buffer.specs.Slots.{slots, flat}
+use Rattle.plan.specs.Layout.{word_bytes}
 
 -- THE IMAGE OF A PRICE LIST
 

@@ -4,17 +4,17 @@ use borrow.Author.Rules.{rules}
 use Rattle.compare.proofs.kind_of.Goals as goal
 
 pub returns-then-same_sets : goal.returns-then-same_sets
-returns-then-same_sets c = kind_alike c.args.left.now c.args.right.now c.args.i.0 c.args.j.0 c.requires.places _ _ _ c.rule_slot.ensures c.rule_slot-2.ensures c.order_filters.ensures
+returns-then-same_sets c = kind_alike c.args.left.now c.args.right.now c.args.i.0 c.args.j.0 c.requires.places _ _ _ c.rule_slot.ensures.slot c.rule_slot-2.ensures.slot c.order_filters.ensures
     c.in-Same.is _ c.same_sets.ensures c.if-same_sets.true
 
 pub returns-in-Before : goal.returns-in-Before
-returns-in-Before c = kind_before c.args.left.now c.args.right.now c.args.i.0 c.args.j.0 c.requires.places _ _ _ c.rule_slot.ensures c.rule_slot-2.ensures c.order_filters.ensures
+returns-in-Before c = kind_before c.args.left.now c.args.right.now c.args.i.0 c.args.j.0 c.requires.places _ _ _ c.rule_slot.ensures.slot c.rule_slot-2.ensures.slot c.order_filters.ensures
     c.in-Before.is
 
 pub returns-in-After : goal.returns-in-After
-returns-in-After c = kind_after c.args.left.now c.args.right.now c.args.i.0 c.args.j.0 c.requires.places _ _ _ c.rule_slot.ensures c.rule_slot-2.ensures c.order_filters.ensures
+returns-in-After c = kind_after c.args.left.now c.args.right.now c.args.i.0 c.args.j.0 c.requires.places _ _ _ c.rule_slot.ensures.slot c.rule_slot-2.ensures.slot c.order_filters.ensures
     c.in-After.is
 
 pub returns-else-same_sets : goal.returns-else-same_sets
-returns-else-same_sets c = kind_both c.args.left.now c.args.right.now c.args.i.0 c.args.j.0 c.requires.places _ _ _ c.rule_slot.ensures c.rule_slot-2.ensures c.order_filters.ensures
+returns-else-same_sets c = kind_both c.args.left.now c.args.right.now c.args.i.0 c.args.j.0 c.requires.places _ _ _ c.rule_slot.ensures.slot c.rule_slot-2.ensures.slot c.order_filters.ensures
     c.in-Same.is _ c.same_sets.ensures c.if-same_sets.false
