@@ -207,6 +207,7 @@
 /* ---- Differences: what npp_compare writes ---- */
 
 #define NPP_DIFFERENCE_BYTES 24 /* an entry */
+#define NPP_MOST_DIFFERENCES 8192 /* every filter of two full plans */
 
 /* Where the fields of an entry stand. */
 #define NPP_DIFFERENCE_KIND_AT 0       /* 1: which of the plans hold the filter */
