@@ -1,4 +1,4 @@
 pub mod Lists
 pub mod Tables
-pub mod Reading
 pub mod Fit
+pub mod Walks

@@ -1,23 +1,19 @@
--- What a reader of a set's lists finds at a place of their bytes, and what is left of the list from there on.
-use Rattle.std.specs.Prelude.{ℕ, ◌+◌, ◌≤◌, ◌≡◌, ◌≢◌, Bool, List, [], ◌∷◌, length, drop, eqb}
+-- What a walk over a set's lists has left.
+use Rattle.std.specs.Prelude.{ℕ, Bool, List, eqb}
 use Rattle.meaning.specs.Basics.{any}
 use Rattle.meaning.specs.Actions.{CA, cas_of, codes_of}
 use Rattle.actions.specs.declared.ConditioningAction.{ConditioningAction}
-
--- a code, 0 where the list ends at place i, and the action x that it stands for, `width` bytes wide
-pub record Reads {A : Type 0} (list_of : List ℕ → List A) (width : ℕ) (b : List ℕ) (i code : ℕ) (x : A) : Type 0 where
-  pub ends : code ≡ 0 → list_of (drop i b) ≡ []
-  pub goes : code ≢ 0 → list_of (drop i b) ≡ x ∷ list_of (drop (i + width) b)
-  pub inside : code ≢ 0 → i + width ≤ length b
+use Rattle.actions.specs.declared.ConditioningActions.{ConditioningActions}
+use Rattle.actions.specs.declared.Codes.{Codes}
 
 abbrev pub action_of : ConditioningAction → CA
 action_of a = record { code = a.code; count = a.count }
 
-abbrev pub ActionAt : List ℕ → ℕ → ConditioningAction → Type 0
-ActionAt b i a = Reads cas_of 2 b i a.code (action_of a)
+abbrev pub actions_left : ConditioningActions → List CA
+actions_left walk = cas_of walk.0.now
 
-abbrev pub CodeAt : List ℕ → ℕ → ℕ → Type 0
-CodeAt b i c = Reads codes_of 1 b i c c
+abbrev pub codes_left : Codes → List ℕ
+codes_left walk = codes_of walk.0.now
 
 -- some CA has the code
 abbrev pub has_code : ℕ → List CA → Bool

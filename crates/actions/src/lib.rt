@@ -7,13 +7,14 @@ ghost use Rattle.meaning.specs.Basics.{any, count, is_empty, contains};
 ghost use Rattle.meaning.specs.Settings.{is_outgoing_class};
 ghost use Rattle.meaning.specs.Actions.{ca_bytes, sa_bytes, fa_bytes, is_x, value_of, cas_of, codes_of, actions_of, most_of, ca_in_range, cas_in_range, codes_in_range, content_in_range};
 ghost use Rattle.meaning.specs.Groups.{is_set, fixed_of, fixed_sum, fpfx_meets_prefix, sum_fits, cas_fit};
-ghost use Rattle.actions.specs.Reading.{action_of, ActionAt, CodeAt, has_code};
+ghost use Rattle.std.specs.Iterator.{YieldsFirst, YieldsFirstBy, item_count};
+ghost use Rattle.actions.specs.Reading.{action_of, actions_left, codes_left, has_code};
 
+use meaning::Outgoing;
 use meaning::ca::{CCDEF, FPFX, IGN, LAST_COUNTED, SNX, ZNX};
 use meaning::fa::DELIMITER_B;
 use meaning::sa::CDIAL;
 use meaning::sizes::{CA_AT, FA_AT, FA_END, OUTGOING_AT, SA_AT};
-use meaning::{Class, OutgoingOf};
 
 // THE PARTS
 
@@ -43,46 +44,102 @@ pub fn fas_of(content: &[u8]) -> &[u8]
 
 // THE ACTIONS
 
-// A conditioning action; code 0 stands behind the last.
+// A conditioning action.
 #[derive(Clone, Copy)]
 pub struct ConditioningAction {
     pub code: u8,
     pub count: u8,
 }
 
-// The conditioning action at place i of a list's bytes.
-pub fn action_at(cas: &[u8], i: usize) -> ConditioningAction
-    requires { i ≤ length cas.now }
-    ensures { ActionAt cas.now i result }
-{
-    if cas.len() - i < 2 {
-        return ConditioningAction { code: 0, count: 0 };
-    }
-    ConditioningAction {
-        code: cas[i],
-        count: cas[i + 1],
+// The conditioning actions of a list's bytes in turn: pairs of a code and a count, up to the first code 0.
+#[derive(Clone, Copy)]
+pub struct ConditioningActions<'a>(&'a [u8]);
+
+impl<'a> Iterator for ConditioningActions<'a> {
+    type Item = ConditioningAction;
+
+    ghost next_gives = { YieldsFirstBy action_of actions_left };
+
+    ghost remaining = { item_count actions_left };
+
+    fn next(&mut self) -> Option<ConditioningAction> {
+        let [code, count, later @ ..] = self.0 else {
+            return None;
+        };
+        if *code == 0 {
+            return None;
+        }
+        self.0 = later;
+        Some(ConditioningAction {
+            code: *code,
+            count: *count,
+        })
     }
 }
 
-// The code at place i of a list's bytes; 0 behind the last.
-pub fn code_at(codes: &[u8], i: usize) -> u8
-    requires { i ≤ length codes.now }
-    ensures { CodeAt codes.now i result }
+impl<'a> ConditioningActions<'a> {
+    // The bytes of those that are left.
+    pub fn as_slice(&self) -> &'a [u8]
+        ensures { cas_of result.now ≡ actions_left self.now }
+    {
+        self.0
+    }
+}
+
+pub fn actions_in(cas: &[u8]) -> ConditioningActions<'_>
+    ensures { actions_left result ≡ cas_of cas.now }
 {
-    if i < codes.len() { codes[i] } else { 0 }
+    ConditioningActions(cas)
+}
+
+// The codes of a list's bytes in turn, up to the first 0.
+#[derive(Clone, Copy)]
+pub struct Codes<'a>(&'a [u8]);
+
+impl<'a> Iterator for Codes<'a> {
+    type Item = u8;
+
+    ghost next_gives = { YieldsFirst codes_left };
+
+    ghost remaining = { item_count codes_left };
+
+    fn next(&mut self) -> Option<u8> {
+        let [code, later @ ..] = self.0 else {
+            return None;
+        };
+        if *code == 0 {
+            return None;
+        }
+        self.0 = later;
+        Some(*code)
+    }
+}
+
+impl<'a> Codes<'a> {
+    // The bytes of those that are left.
+    pub fn as_slice(&self) -> &'a [u8]
+        ensures { codes_of result.now ≡ codes_left self.now }
+    {
+        self.0
+    }
+}
+
+pub fn codes_in(list: &[u8]) -> Codes<'_>
+    ensures { codes_left result ≡ codes_of list.now }
+{
+    Codes(list)
 }
 
 pub fn no_conditioning(cas: &[u8]) -> bool
     ensures { result ≡ is_empty (cas_of cas.now) }
 {
-    let a = action_at(cas, 0);
-    a.code == 0
+    actions_in(cas).next().is_none()
 }
 
-pub fn no_codes(codes: &[u8]) -> bool
-    ensures { result ≡ is_empty (codes_of codes.now) }
+pub fn no_codes(list: &[u8]) -> bool
+    ensures { result ≡ is_empty (codes_of list.now) }
 {
-    code_at(codes, 0) == 0
+    codes_in(list).next().is_none()
 }
 
 // The value that each conditioning code sets, by its formatting code; 0 for none.
@@ -107,69 +164,28 @@ pub fn is_x(a: ConditioningAction) -> bool
 pub fn is_set(cas: &[u8], v: u8) -> bool
     ensures { result ≡ is_set v (cas_of cas.now) }
 {
-    let mut i = 0;
-    loop {
-        let a = action_at(cas, i);
-        if a.code == 0 {
-            return false;
-        }
-        if value_of(a.code) == v {
-            return true;
-        }
-        i += 2;
-    }
+    actions_in(cas).any(|a| value_of(a.code) == v)
 }
 
 // Some conditioning action has the code.
 pub fn has_code(cas: &[u8], code: u8) -> bool
     ensures { result ≡ has_code code (cas_of cas.now) }
 {
-    let mut i = 0;
-    loop {
-        let a = action_at(cas, i);
-        if a.code == 0 {
-            return false;
-        }
-        if a.code == code {
-            return true;
-        }
-        i += 2;
-    }
+    actions_in(cas).any(|a| a.code == code)
 }
 
 // The code stands in a list of codes.
-pub fn contains(codes: &[u8], code: u8) -> bool
-    ensures { result ≡ contains code (codes_of codes.now) }
+pub fn contains(list: &[u8], code: u8) -> bool
+    ensures { result ≡ contains code (codes_of list.now) }
 {
-    let mut i = 0;
-    loop {
-        let c = code_at(codes, i);
-        if c == 0 {
-            return false;
-        }
-        if code == c {
-            return true;
-        }
-        i += 1;
-    }
+    codes_in(list).any(|c| code == c)
 }
 
 // How many X actions there are.
 pub fn count_x(cas: &[u8]) -> usize
     ensures { result ≡ count is_x (cas_of cas.now) }
 {
-    let mut n: usize = 0;
-    let mut i = 0;
-    loop {
-        let a = action_at(cas, i);
-        if a.code == 0 {
-            return n;
-        }
-        if is_x(a) {
-            n += 1;
-        }
-        i += 2;
-    }
+    actions_in(cas).filter(|a| is_x(*a)).count()
 }
 
 // The digits that an action takes for certain.
@@ -187,22 +203,13 @@ pub fn fixed_sum(cas: &[u8], prefix: usize) -> usize
     requires { (length cas.now ≤ 24) × (prefix ≤ 16) }
     ensures { result ≡ fixed_sum prefix (cas_of cas.now) }
 {
-    let mut sum: usize = 0;
-    let mut i = 0;
-    loop {
-        let a = action_at(cas, i);
-        if a.code == 0 {
-            return sum;
-        }
-        sum += fixed_of(a, prefix);
-        i += 2;
-    }
+    actions_in(cas).map(|a| fixed_of(a, prefix)).sum()
 }
 
 pub fn has_x(cas: &[u8]) -> bool
     ensures { result ≡ any is_x (cas_of cas.now) }
 {
-    count_x(cas) != 0
+    actions_in(cas).any(is_x)
 }
 
 // RANGE
@@ -222,6 +229,7 @@ fn most_of(code: u8) -> u8
 }
 
 // A conditioning action's code and count.
+#[tactic(auto, unfolding(meaning::specs::Actions::ca_in_range))]
 pub fn ca_in_range(code: u8, count: u8) -> bool
     ensures { result ≡ ca_in_range code count }
 {
@@ -235,38 +243,32 @@ pub fn ca_in_range(code: u8, count: u8) -> bool
 pub fn cas_in_range(cas: &[u8]) -> bool
     ensures { result ≡ cas_in_range cas.now }
 {
-    let mut i = 0;
-    while i < cas.len() {
-        if cas.len() - i < 2 {
+    let mut left = cas;
+    while let [code, count, later @ ..] = left {
+        if *code == 0 {
+            return *count == 0 && buffer::all_zero(later);
+        }
+        if !ca_in_range(*code, *count) {
             return false;
         }
-        let code = cas[i];
-        let count = cas[i + 1];
-        if code == 0 {
-            return count == 0 && buffer::all_zero(&cas[i + 2..]);
-        }
-        if !ca_in_range(code, count) {
-            return false;
-        }
-        i += 2;
+        left = later;
     }
-    true
+    left.is_empty()
 }
 
 // A list of codes from 1 to `most` up to the first 0, and nothing behind it.
-pub fn codes_in_range(codes: &[u8], most: u8) -> bool
-    ensures { result ≡ codes_in_range most codes.now }
+pub fn codes_in_range(list: &[u8], most: u8) -> bool
+    ensures { result ≡ codes_in_range most list.now }
 {
-    let mut i = 0;
-    while i < codes.len() {
-        let code = codes[i];
-        i += 1;
-        if code == 0 {
-            return buffer::all_zero(&codes[i..]);
+    let mut left = list;
+    while let [code, later @ ..] = left {
+        if *code == 0 {
+            return buffer::all_zero(later);
         }
-        if most < code {
+        if most < *code {
             return false;
         }
+        left = later;
     }
     true
 }
@@ -274,40 +276,29 @@ pub fn codes_in_range(codes: &[u8], most: u8) -> bool
 fn is_outgoing_class(b: u8) -> bool
     ensures { result ≡ is_outgoing_class b }
 {
-    match Class::outgoing(b) {
-        OutgoingOf::Given(_) => true,
-        OutgoingOf::AsIncoming => true,
-        OutgoingOf::Unknown => false,
-    }
+    Outgoing::try_from(b).is_ok()
 }
 
 // A set's content: outgoing class, conditioning, service and formatting actions.
+#[tactic(auto, unfolding(meaning::specs::Actions::content_in_range))]
 pub fn content_in_range(content: &[u8]) -> bool
     requires { length content.now ≡ CONTENT-BYTES }
     ensures { result ≡ content_in_range content.now }
 {
-    if !is_outgoing_class(content[OUTGOING_AT]) {
-        return false;
-    }
-    if !cas_in_range(cas_of(content)) {
-        return false;
-    }
-    if !codes_in_range(sas_of(content), CDIAL) {
-        return false;
-    }
-    codes_in_range(fas_of(content), DELIMITER_B)
+    is_outgoing_class(content[OUTGOING_AT])
+        && cas_in_range(cas_of(content))
+        && codes_in_range(sas_of(content), CDIAL)
+        && codes_in_range(fas_of(content), DELIMITER_B)
 }
 
 // THE FIT
 
 // FPFX, where present, meets a prefix of at least one digit.
+#[tactic(auto, unfolding(meaning::specs::Groups::fpfx_meets_prefix))]
 fn fpfx_meets_prefix(cas: &[u8], prefix: usize) -> bool
     ensures { result ≡ fpfx_meets_prefix prefix (cas_of cas.now) }
 {
-    if prefix == 0 {
-        return !has_code(cas, FPFX);
-    }
-    true
+    prefix != 0 || !has_code(cas, FPFX)
 }
 
 // F fits a stated length, or 0 for the wildcard, with or without an X action.
@@ -321,17 +312,13 @@ fn sum_fits(len: usize, x: bool, f: usize) -> bool
 }
 
 // A rule with a prefix and a length of so many digits fits a set's conditioning actions.
+#[tactic(auto, unfolding(meaning::specs::Groups::cas_fit))]
 pub fn cas_fit(cas: &[u8], prefix: usize, len: usize) -> bool
     requires { (length cas.now ≤ 24) × (prefix ≤ 16) }
     ensures { result ≡ cas_fit prefix len (cas_of cas.now) }
 {
-    if no_conditioning(cas) {
-        return true;
-    }
-    if !fpfx_meets_prefix(cas, prefix) {
-        return false;
-    }
-    sum_fits(len, has_x(cas), fixed_sum(cas, prefix))
+    no_conditioning(cas)
+        || (fpfx_meets_prefix(cas, prefix) && sum_fits(len, has_x(cas), fixed_sum(cas, prefix)))
 }
 
 // The same, over a set's content.

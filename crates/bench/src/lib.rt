@@ -11,19 +11,22 @@ ghost use Rattle.plan.specs.State.{sound_of};
 ghost use Rattle.number.specs.Answering.{Ready};
 ghost use Rattle.number.specs.Promises.{GivesAnswer};
 ghost use Rattle.meaning.specs.Ledger.{ledger_of};
+ghost use Rattle.prices.specs.Layout.{prices_in_range};
 ghost use Rattle.charging.specs.Promises.{Chargeable};
 ghost use Rattle.bench.specs.PlaceNumbers.{place_number};
 ghost use Rattle.bench.specs.Charged.{ChargedAs};
 
 use meaning::sizes::LEDGER_NUMBERS;
-use meaning::{Answered, Chosen, Totals};
+use meaning::{Answered, Totals};
+use plan::SoundPlan;
+use prices::PriceList;
 
 #[unsafe(no_mangle)]
 pub extern "C" fn npp_answer_known(plan: &[u8], body: &[u8], out: &mut [u8]) -> Answered
-    requires { Ready plan.now body.now out.old }
+    requires { (sound_of plan.now ≡ true) × Ready body.now out.old }
     ensures { GivesAnswer (answer_of (plan_of plan.now) (number_of body.now)) out.old out.new result }
 {
-    number::answer_known(plan, body, out)
+    number::answer_known(SoundPlan { memory: plan }, body, out)
 }
 
 // What stands for no place.
@@ -35,9 +38,9 @@ pub extern "C" fn npp_chosen_known(plan: &[u8], class: u8, digits: &[u8]) -> usi
     requires { sound_of plan.now ≡ true }
     ensures { result ≡ place_number (chosen_place class digits.now (plan_of plan.now).rules) }
 {
-    match choice::choose(plan, class, digits) {
-        Chosen::At(place) => place.0 as usize,
-        Chosen::NoRule => NO_PLACE,
+    match choice::choose(SoundPlan { memory: plan }, class, digits) {
+        Some(rule) => usize::from(rule.place.0),
+        None => NO_PLACE,
     }
 }
 
@@ -59,14 +62,14 @@ pub extern "C" fn npp_charge_known(
     body: &[u8],
     out: &mut [u8],
 ) -> Charged
-    requires { Chargeable plan.now prices.now (ledger_of districts.old whole) body.now × (32 ≤ length out.old) }
+    requires { (sound_of plan.now ≡ true) × (prices_in_range prices.now ≡ true) × Chargeable (ledger_of districts.old whole) body.now × (32 ≤ length out.old) }
     ensures { ChargedAs plan.now prices.now (ledger_of districts.old whole) body.now out.old (ledger_of districts.new result.whole) out.new result.outcome }
 {
+    let plan = SoundPlan { memory: plan };
+    let prices = PriceList { memory: prices };
     let t = charging::take_known(plan, prices, districts, whole, body, out);
-    let a = t.answer;
-    let left = t.whole;
     Charged {
-        outcome: a.outcome,
-        whole: left,
+        outcome: t.answer.outcome,
+        whole: t.whole,
     }
 }

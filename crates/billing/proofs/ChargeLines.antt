@@ -1,5 +1,5 @@
 -- The lines of a number, alone or in a call record, and of a row.
-use Prim.Native.Nat.{ℕ, ◌-◌, ◌≤◌}
+use Prim.Native.Nat.{ℕ}
 use mathlib.Core.Path.{◌≡◌, refl, ap, sym, subst, ◌∙◌}
 use mathlib.Core.Logic.{◌≢◌}
 use mathlib.Core.Bool.{Bool, true, false}
@@ -17,8 +17,7 @@ use Rattle.meaning.specs.Settings.{number_of, number_in_range}
 use Rattle.meaning.specs.Plan.{Plan}
 use Rattle.meaning.specs.Prices.{PriceRow, row_given, price_refusal, with_row, rows_after}
 use Rattle.meaning.specs.Ledger.{Ledger}
-use Rattle.meaning.specs.Answer.{Answer, refused, answer_of, answer}
-use Rattle.meaning.specs.Answers.{answered_as}
+use Rattle.meaning.specs.Answer.{refused, answer_of, answer}
 use Rattle.meaning.specs.Charges.{call_record_of, call_in_range, priced_by, due_on, number_in, taking_refusal, charged}
 use Rattle.meaning.specs.Records.{no_line, accepted_line, number_line, rows_or}
 use Rattle.meaning.specs.declared.Answered.{Answered}
@@ -86,15 +85,15 @@ module _ (m prices : List ℕ) (l : Ledger) (body : List ℕ) where
 
 -- AN ANSWER, over what is known
 
-module _ {m number : List ℕ} (k : Known m number) where
+module _ (m : List ℕ) {number : List ℕ} (sound : sound_of m ≡ true) (k : Known number) where
   fine : Printable (answer_of (plan_of m) (number_of number))
-  fine = printable (plan_of m) (sound_is m k.sound).plan number (true_is (number_in_range number) k.range)
+  fine = printable (plan_of m) (sound_is m sound).plan number (true_is (number_in_range number) k.range)
 
   known : answer (some (plan_of m)) DIGIT-ROOM number ≡ answer_of (plan_of m) (number_of number)
   known = rw (le-ltb (length number) NUMBER-BYTES (omega (arith, k.whole)), take_all NUMBER-BYTES number (omega (arith, k.whole)), k.range)
 
   module _ {digits : List ℕ} {r : Answered} (h : HoldsAnswer (answer_of (plan_of m) (number_of number)) digits r) where
-    pub answered_in : NumberIn r (take (r.digits - 0) digits)
+    pub answered_in : NumberIn r (take r.digits digits)
     answered_in = number_in_lem fine h
 
     -- a refusal is all that an answer says
@@ -105,41 +104,41 @@ module _ {m number : List ℕ} (k : Known m number) where
 
     module _ (prices body : List ℕ) (l : Ledger) where
       -- the answer of a call record's number
-      in_call : Chargeable m prices l body → number ≡ (call_record_of body).number → HoldsAnswer (answer_of (plan_of m) (number_in body)) digits r
+      in_call : Chargeable l body → number ≡ (call_record_of body).number → HoldsAnswer (answer_of (plan_of m) (number_in body)) digits r
       in_call c e = subst (λ (x : List ℕ). HoldsAnswer (answer_of (plan_of m) (number_of x)) digits r) e h
 
-      pub own_line : {output left : List ℕ} {n : ℕ} (b : Bool) → OfRecord b m prices l body number → r.refusal ≢ 0 → Writes (no_line r.refusal) output left n
+      pub own_line : {output left : List ℕ} {n : ℕ} (b : Bool) → OfRecord b l body number → r.refusal ≢ 0 → Writes (no_line r.refusal) output left n
           → AnsweredPromise b (state_of m) (rows_in prices) l body output l left n
       own_line true o i w =
           let c = o.charged_with refl in
           let h' = in_call c (o.in_record refl) in
           let same : answer_of (plan_of m) (number_of number) ≡ answer_of (plan_of m) (number_in body) = ap (λ (x : List ℕ). answer_of (plan_of m) (number_of x)) (o.in_record refl) in
-          rw (state_some m k.sound) (refuses m prices l body true (some (plan_of m)) r.refusal (charged_own c h' i ∙ (sym same ∙ own i)) (holds_own c h' i).ledger i w)
+          rw (state_some m sound) (refuses m prices l body true (some (plan_of m)) r.refusal (charged_own m prices c h' i ∙ (sym same ∙ own i)) (holds_own m prices c h' i).ledger i w)
       own_line false o i w =
-          rw (state_some m k.sound, ← o.alone refl) (refuses m prices l number false (some (plan_of m)) r.refusal (known ∙ own i) refl i w)
+          rw (state_some m sound, ← o.alone refl) (refuses m prices l number false (some (plan_of m)) r.refusal (known ∙ own i) refl i w)
 
       module _ (given : r.refusal ≡ 0) where
         abbrev due : Option ℕ
-        due = due_on (rows_in prices) (call_record_of body).seconds (priced_by r.outcome (number_in body).digits (take (r.digits - 0) digits))
+        due = due_on (rows_in prices) (call_record_of body).seconds (priced_by r.outcome (number_in body).digits (take r.digits digits))
 
-        pub refused_charge : {output left : List ℕ} {n c : ℕ} {after : Ledger} (b : Bool) → OfRecord b m prices l body number → ChargesIf b due (call_record_of body) l after c → c ≢ 0
+        pub refused_charge : {output left : List ℕ} {n c : ℕ} {after : Ledger} (b : Bool) → OfRecord b l body number → ChargesIf b due (call_record_of body) l after c → c ≢ 0
             → Writes (no_line c) output left n → AnsweredPromise b (state_of m) (rows_in prices) l body output after left n
         refused_charge {c = c} true o g i w =
             let k' = o.charged_with refl in
             let h' = in_call k' (o.in_record refl) in
-            rw (state_some m k.sound) (refuses m prices l body true (some (plan_of m)) c (charged_refused k' h' given (g.charges refl) i) (charged_ledger k' h' given (g.charges refl)) i w)
+            rw (state_some m sound) (refuses m prices l body true (some (plan_of m)) c (charged_refused m prices k' h' given (g.charges refl) i) (charged_ledger m prices k' h' given (g.charges refl)) i w)
         refused_charge false o g i w = absurd (i (g.none_is refl))
 
-        pub answered_written : {output left : List ℕ} {n c : ℕ} {after : Ledger} (b : Bool) → OfRecord b m prices l body number → ChargesIf b due (call_record_of body) l after c → c ≡ 0
-            → Writes (number_line (answer_in r (take (r.digits - 0) digits))) output left n → AnsweredPromise b (state_of m) (rows_in prices) l body output after left n
+        pub answered_written : {output left : List ℕ} {n c : ℕ} {after : Ledger} (b : Bool) → OfRecord b l body number → ChargesIf b due (call_record_of body) l after c → c ≡ 0
+            → Writes (number_line (answer_in r (take r.digits digits))) output left n → AnsweredPromise b (state_of m) (rows_in prices) l body output after left n
         answered_written true o g i w =
             let k' = o.charged_with refl in
             let h' = in_call k' (o.in_record refl) in
             let is : answer_of (plan_of m) (number_of number) ≡ charged (some (plan_of m)) (some (rows_in prices)) l DIGIT-ROOM body =
-            ap (λ (x : List ℕ). answer_of (plan_of m) (number_of x)) (o.in_record refl) ∙ sym (charged_answered k' h' given (g.charges refl) i) in
-            rw (state_some m k.sound) (record { line = named (line_is fine h ∙ ap number_line is) w; ledger = charged_ledger k' h' given (g.charges refl) })
+            ap (λ (x : List ℕ). answer_of (plan_of m) (number_of x)) (o.in_record refl) ∙ sym (charged_answered m prices k' h' given (g.charges refl) i) in
+            rw (state_some m sound) (record { line = named (line_is fine h ∙ ap number_line is) w; ledger = charged_ledger m prices k' h' given (g.charges refl) })
         answered_written false o g i w =
-            rw (state_some m k.sound, ← o.alone refl) (record { line = named (line_is fine h ∙ ap number_line (sym known)) w; ledger = g.left_is refl })
+            rw (state_some m sound, ← o.alone refl) (record { line = named (line_is fine h ∙ ap number_line (sym known)) w; ledger = g.left_is refl })
 
 -- A ROW
 

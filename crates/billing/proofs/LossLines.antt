@@ -3,25 +3,24 @@ use Prim.Native.Nat.{ℕ, zero, suc, ◌+◌, ◌-◌, ◌≤◌, ◌<◌}
 use mathlib.Core.Path.{◌≡◌, refl, ap, sym, subst, ◌∙◌}
 use mathlib.Core.Bool.{Bool, true, false}
 use mathlib.Core.List.{List, [], ◌∷◌}
-use mathlib.Core.Option.{Option, none, some}
 use native.Mathlib.Omega.{arith}
 use lib.IntN.{ℤ}
 use mir.Syntax.{w64}
 use mir.ValLaws.{to_z-of_z}
+use Rattle.std.specs.Prelude.{Some, None}
 use Rattle.meaning.specs.Sizes.{DISTRICTS}
 use Rattle.std.specs.Prelude.{if◌then◌else◌}
-use Rattle.meaning.specs.Ledger.{Ledger, ledger_of, totals_at, ledger_in_range, loss_of, cents, loss_in, has_records}
+use Rattle.meaning.specs.Ledger.{Ledger, totals_at, loss_of, cents, loss_in, has_records}
 use Rattle.meaning.specs.Records.{decimal, signed_decimal, line, loss_line, total_line}
 use Rattle.meaning.specs.declared.Totals.{Totals}
 use Rattle.meaning.specs.declared.Loss.{Loss}
-use Rattle.meaning.proofs.Tests.{true_is}
 use Rattle.ledger.specs.Losses.{Sized, next_from}
 use Rattle.ledger.proofs.Losses.{loss_sized, sized_fits}
 use Rattle.text.specs.Writes.{Writes, Printable}
 use Rattle.text.proofs.Lines.{named}
 use Rattle.text.proofs.Losses.{as_read, cents_few}
 use Rattle.billing.specs.Parts.{Part, last_part, part_before, loss_part_from, loss_part}
-use Rattle.billing.specs.Lines.{next_of, LossPromise}
+use Rattle.billing.specs.Lines.{LossPromise}
 use Rattle.billing.specs.declared.Reported.{Reported}
 
 -- the cents of a loss that was worked out
@@ -71,24 +70,23 @@ module _ (l : Ledger) where
       go false later = (λ h. later.0 (omega (arith, h)), λ h. later.1 (omega (arith, h)))
 
   pub next_line : {out left : List ℕ} {r : Reported} (lines d : ℕ) → lines < DISTRICTS → d ≡ next_from l.districts lines (DISTRICTS - lines) → d < DISTRICTS
-      → Writes (loss_line d (totals_at l.districts d)) out left r.written → r.last ≡ false → r.next ≡ d + 1 → LossPromise l lines out left r
-  next_line {out} {left} {r} lines d few is h w last next =
+      → Writes (loss_line d (totals_at l.districts d)) out left r.written → r.next ≡ Some (d + 1) → LossPromise l lines out left r
+  next_line {out} {left} {r} lines d few is h w next =
       let all : lines + (DISTRICTS - lines) ≡ DISTRICTS = omega (arith, few) in
       let part : loss_part l lines ≡ part_before (d + 1) (loss_line d (totals_at l.districts d)) = rw is ((part_is lines (DISTRICTS - lines)).0 (omega (arith, all, is, h))) in
       record {
         line = named (ap (λ (x : Part). x.text) (sym part)) w;
-        next_is = rw (last, next) (ap (λ (x : Part). x.next) (sym part));
-        none_behind = λ h. absurd (true_is false (sym last ∙ h));
+        next_is = rw next (ap (λ (x : Part). x.next) (sym part));
       }
 
-  last_part_lem : {out left : List ℕ} {r : Reported} (lines : ℕ) → loss_part l lines ≡ last_part (total_line l.whole) → Writes (total_line l.whole) out left r.written → r.last ≡ true → r.next ≡ 0 → LossPromise l lines out left r
-  last_part_lem lines part w last next = record { line = named (ap (λ (x : Part). x.text) (sym part)) w; next_is = rw last (ap (λ (x : Part). x.next) (sym part)); none_behind = λ h. next }
+  last_part_lem : {out left : List ℕ} {r : Reported} (lines : ℕ) → loss_part l lines ≡ last_part (total_line l.whole) → Writes (total_line l.whole) out left r.written → r.next ≡ None → LossPromise l lines out left r
+  last_part_lem lines part w next = record { line = named (ap (λ (x : Part). x.text) (sym part)) w; next_is = rw next (ap (λ (x : Part). x.next) (sym part)) }
 
   pub none_left : {out left : List ℕ} {r : Reported} (lines d : ℕ) → lines < DISTRICTS → d ≡ next_from l.districts lines (DISTRICTS - lines) → DISTRICTS ≤ d
-      → Writes (total_line l.whole) out left r.written → r.last ≡ true → r.next ≡ 0 → LossPromise l lines out left r
-  none_left lines d few is h w last next =
+      → Writes (total_line l.whole) out left r.written → r.next ≡ None → LossPromise l lines out left r
+  none_left lines d few is h w next =
       let all : lines + (DISTRICTS - lines) ≡ DISTRICTS = omega (arith, few) in
-      last_part_lem lines ((part_is lines (DISTRICTS - lines)).1 (omega (arith, all, is, h))) w last next
+      last_part_lem lines ((part_is lines (DISTRICTS - lines)).1 (omega (arith, all, is, h))) w next
 
-  pub all_counted : {out left : List ℕ} {r : Reported} (lines : ℕ) → DISTRICTS ≤ lines → Writes (total_line l.whole) out left r.written → r.last ≡ true → r.next ≡ 0 → LossPromise l lines out left r
-  all_counted lines h w last next = let None-more : DISTRICTS - lines ≡ 0 = omega (arith, h) in last_part_lem lines (rw None-more) w last next
+  pub all_counted : {out left : List ℕ} {r : Reported} (lines : ℕ) → DISTRICTS ≤ lines → Writes (total_line l.whole) out left r.written → r.next ≡ None → LossPromise l lines out left r
+  all_counted lines h w next = let None-more : DISTRICTS - lines ≡ 0 = omega (arith, h) in last_part_lem lines (rw None-more) w next

@@ -1,9 +1,8 @@
 -- The line of an answer whose digits are lent from the front of a buffer.
-use Prim.Native.Nat.{ℕ, ◌-◌}
+use Prim.Native.Nat.{ℕ}
 use mathlib.Core.Path.{◌≡◌, ap}
 use mathlib.Core.List.{List}
-use native.Mathlib.Nat.{sub-zero}
-use lib.ListN.{length, take}
+use lib.ListN.{take}
 use Rattle.meaning.specs.Answer.{Answer}
 use Rattle.meaning.specs.Records.{number_line}
 use Rattle.meaning.specs.declared.Answered.{Answered}
@@ -14,10 +13,10 @@ use Rattle.text.specs.Writes.{answer_in, NumberIn}
 
 module _ {a : Answer} {held : List ℕ} {r : Answered} (p : Printable a) (h : HoldsAnswer a held r) where
   abbrev lent : List ℕ
-  lent = take (r.digits - 0) held
+  lent = take r.digits held
 
   lent_are : lent ≡ a.digits
-  lent_are = rw (sub-zero, holds_count h) h.digits
+  lent_are = rw (holds_count h) h.digits
 
   pub number_in_lem : NumberIn r lent
   number_in_lem =

@@ -1,8 +1,7 @@
 -- What the lines of a number, of a call record, of a row and of the losses promise.
-use Rattle.std.specs.Prelude.{ℕ, ◌≡◌, Bool, true, false, List}
+use Rattle.std.specs.Prelude.{ℕ, ◌≡◌, Bool, true, false, List, Option as Optional, Some, None}
 use Rattle.std.proofs.Math.Option.{Option, none, some}
 use Rattle.meaning.specs.Sizes.{DIGIT-ROOM}
-use Rattle.std.specs.Prelude.{if◌then◌else◌}
 use Rattle.meaning.specs.Plan.{Plan}
 use Rattle.meaning.specs.Answer.{Answer, answer}
 use Rattle.meaning.specs.Prices.{PriceRow, price_refusal, rows_after}
@@ -32,9 +31,9 @@ pub record AnsweredPromise (call : Bool) (s : Option Plan) (rs : List PriceRow) 
   pub ledger : after ≡ ledger_by call s rs l body
 
 -- a number of a record: the body itself, or the number of a call record that can be charged
-pub record OfRecord (call : Bool) (m prices : List ℕ) (l : Ledger) (body number : List ℕ) : Type 0 where
+pub record OfRecord (call : Bool) (l : Ledger) (body number : List ℕ) : Type 0 where
   pub alone : call ≡ false → number ≡ body
-  pub charged_with : call ≡ true → Chargeable m prices l body
+  pub charged_with : call ≡ true → Chargeable l body
   pub in_record : call ≡ true → number ≡ (call_record_of body).number
 
 -- of a row: "Kind 17 .. writes `ok`"
@@ -43,10 +42,10 @@ pub record PricePromise (m body output after left : List ℕ) (written : ℕ) : 
   pub memory : after ≡ prices_image (rows_or (rows_in m) (rows_after (some (rows_in m)) body))
 
 -- of the losses: the next line, and where more are to come how many are counted behind it
-abbrev pub next_of : Reported → Option ℕ
-next_of r = if r.last then none else some r.next
+abbrev pub next_of : Optional ℕ → Option ℕ
+next_of (Some n) = some n
+next_of None = none
 
 pub record LossPromise (l : Ledger) (lines : ℕ) (output left : List ℕ) (r : Reported) : Type 0 where
   pub line : Writes (loss_part l lines).text output left r.written
-  pub next_is : next_of r ≡ (loss_part l lines).next
-  pub none_behind : r.last ≡ true → r.next ≡ 0
+  pub next_is : next_of r.next ≡ (loss_part l lines).next

@@ -1,9 +1,10 @@
 // The lines of numbers and of C-11's records: a number, alone or in a call record, a row of the price list, the losses.
 #![tactic(auto)]
 
-ghost use Rattle.std.specs.Prelude.{◌≡◌, true, ◌≤◌, ◌<◌, length};
+ghost use Rattle.std.specs.Prelude.{◌≡◌, true, ◌≤◌, ◌<◌, length, None};
 ghost use Rattle.meaning.specs.Sizes.{PRICE-BODY, DISTRICTS as DISTRICT-COUNT};
 ghost use Rattle.meaning.specs.Ledger.{ledger_of, totals_at, ledger_in_range};
+ghost use Rattle.meaning.specs.Answers.{number_of_refusal};
 ghost use Rattle.meaning.specs.Records.{no_line, loss_line, total_line};
 ghost use Rattle.plan.specs.State.{state_of};
 ghost use Rattle.number.specs.Answering.{Known};
@@ -11,9 +12,12 @@ ghost use Rattle.prices.specs.Layout.{rows_in, prices_in_range};
 ghost use Rattle.text.specs.Writes.{LONGEST, Writes};
 ghost use Rattle.billing.specs.Lines.{AnsweredPromise, OfRecord, PricePromise, LossPromise};
 
-use meaning::Totals;
 use meaning::refusals::ACCEPTED;
 use meaning::sizes::{DISTRICTS, LEDGER_NUMBERS};
+use meaning::{Refusal, Totals};
+use number::ANSWER_BYTES;
+use plan::SoundPlan;
+use prices::PriceList;
 
 // A line of a number, alone or in a call record: how many bytes it has, and the whole's totals behind it.
 #[derive(Clone, Copy)]
@@ -22,32 +26,28 @@ pub struct Entered {
     pub whole: Totals,
 }
 
-// A line of the losses: how many bytes it has, whether it is the last, and else how many are counted behind it.
+// A line of the losses: how many bytes it has, and where more are to come how many districts are counted behind it.
 #[derive(Clone, Copy)]
 pub struct Reported {
     pub written: usize,
-    pub last: bool,
-    pub next: u16,
+    pub next: Option<u16>,
 }
 
 // A NUMBER, AND A CALL RECORD
 
 // The line of a refusal: the whole's totals stay.
-pub fn refused_line(number: u8, whole: Totals, output: &mut [u8]) -> Entered
+pub fn refused_line(refusal: Refusal, whole: Totals, output: &mut [u8]) -> Entered
     requires { LONGEST ≤ length output.old }
-    ensures { Writes (no_line number) output.old output.new result.written × (result.whole ≡ whole) }
+    ensures { Writes (no_line (number_of_refusal refusal)) output.old output.new result.written × (result.whole ≡ whole) }
 {
-    let written = text::no_line(number, output);
-    Entered {
-        written: written,
-        whole: whole,
-    }
+    let written = text::no_line(u8::from(refusal), output);
+    Entered { written, whole }
 }
 
-// The line of a number in range, over a plan that is known to be sound. A call record is charged before it has its line.
+// The line of a number in range. A call record is charged before it has its line.
 pub fn answered_line(
-    plan: &[u8],
-    prices: &[u8],
+    plan: SoundPlan,
+    prices: PriceList,
     districts: &mut [i64; LEDGER_NUMBERS],
     whole: Totals,
     call: bool,
@@ -55,32 +55,33 @@ pub fn answered_line(
     number: &[u8],
     output: &mut [u8],
 ) -> Entered
-    requires { Known plan.now number.now × OfRecord call plan.now prices.now (ledger_of districts.old whole) body.now number.now × (LONGEST ≤ length output.old) }
-    ensures { AnsweredPromise call (state_of plan.now) (rows_in prices.now) (ledger_of districts.old whole) body.now output.old (ledger_of districts.new result.whole) output.new result.written }
+    requires { Known number.now × OfRecord call (ledger_of districts.old whole) body.now number.now × (LONGEST ≤ length output.old) }
+    ensures { AnsweredPromise call (state_of plan.entry.memory.now) (rows_in prices.entry.memory.now) (ledger_of districts.old whole) body.now output.old (ledger_of districts.new result.whole) output.new result.written }
 {
-    let mut digits = [0u8; number::ANSWER_BYTES];
-    let a = number::answer_held(plan, number, &mut digits);
-    if a.refusal != ACCEPTED {
-        return refused_line(a.refusal, whole, output);
+    let mut digits = [0u8; ANSWER_BYTES];
+    let answer = number::answer_held(plan, number, &mut digits);
+    if answer.refusal != ACCEPTED {
+        let written = text::no_line(answer.refusal, output);
+        return Entered { written, whole };
     }
-    let n = a.digits;
-    let c = charging::charge(
+    let outgoing = &digits[..answer.digits];
+    match charging::charge(
         call,
         prices,
         districts,
         whole,
         body,
-        a.outcome,
-        &digits[0..n],
-    );
-    let left = c.whole;
-    if c.refusal != ACCEPTED {
-        return refused_line(c.refusal, left, output);
-    }
-    let written = text::number_line(a, &digits[0..n], output);
-    Entered {
-        written: written,
-        whole: left,
+        answer.outcome,
+        outgoing,
+    ) {
+        Err(refusal) => refused_line(refusal, whole, output),
+        Ok(left) => {
+            let written = text::number_line(answer, outgoing, output);
+            Entered {
+                written,
+                whole: left,
+            }
+        }
     }
 }
 
@@ -114,14 +115,13 @@ fn district_line(
 // The last line: that of the whole.
 fn last_line(districts: &[i64; LEDGER_NUMBERS], whole: Totals, output: &mut [u8]) -> Reported
     requires { (ledger_in_range (ledger_of districts.now whole) ≡ true) × (LONGEST ≤ length output.old) }
-    ensures { Writes (total_line whole) output.old output.new result.written × (result.last ≡ true) × (result.next ≡ 0) }
+    ensures { Writes (total_line whole) output.old output.new result.written × (result.next ≡ None) }
 {
     let loss = ledger::loss_of(whole);
     let written = text::total_line(loss.cents, output);
     Reported {
-        written: written,
-        last: true,
-        next: 0,
+        written,
+        next: None,
     }
 }
 
@@ -135,7 +135,7 @@ pub fn loss_record(
     requires { (ledger_in_range (ledger_of districts.now whole) ≡ true) × (LONGEST ≤ length output.old) }
     ensures { LossPromise (ledger_of districts.now whole) lines output.old output.new result }
 {
-    let from = lines as usize;
+    let from = usize::from(lines);
     if DISTRICTS <= from {
         return last_line(districts, whole, output);
     }
@@ -145,8 +145,7 @@ pub fn loss_record(
     }
     let written = district_line(districts, whole, d, output);
     Reported {
-        written: written,
-        last: false,
-        next: (d + 1) as u16,
+        written,
+        next: Some((d + 1) as u16),
     }
 }

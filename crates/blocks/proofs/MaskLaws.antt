@@ -3,11 +3,12 @@ use Prim.Native.Nat.{ℕ, zero, suc, ◌+◌, ◌-◌, ◌*◌, ◌/◌, ◌%◌
 use mathlib.Core.Path.{◌≡◌, refl, sym, ap, ap₂, ◌∙◌}
 use mathlib.Core.List.{List, [], ◌∷◌}
 use mathlib.Core.Bool.{Bool, ◌&&◌}
-use native.Mathlib.Nat.{mod-eq_of_lt, le_of_suc-le-suc, sub-zero, zero-sub, suc-sub-suc}
+use native.Mathlib.Nat.{mod-eq_of_lt, le_refl, le_of_suc-le-suc, sub-zero, zero-sub, suc-sub-suc}
 use native.Mathlib.Omega.{arith}
 use lib.Bits.{bit_and, and_block, and_mask, and_high}
-use lib.ListN.{length, take, drop, set, replicate, length-drop}
+use lib.ListN.{length, take, drop, length-drop}
 use lib.Seq.{length-take-le}
+use borrow.Rule.Slice.PartMut.{mid_of}
 use lib.Dec.{eqb, eqb→eq, leb→le}
 use borrow.Author.Tests.{eq-eqb, le-leb}
 use Rattle.meaning.specs.Basics.{is_zero, is_digit}
@@ -88,44 +89,22 @@ masks_drop (suc k) n zero = rw zero-sub
 masks_drop (suc k) zero (suc w) = masks_drop k zero w ∙ rw (zero-sub, zero-sub, suc-sub-suc)
 masks_drop (suc k) (suc n) (suc w) = masks_drop k n w ∙ ap₂ masks (sym (suc-sub-suc n k)) (sym (suc-sub-suc w k))
 
--- A LOOP THAT MAKES THE TABLE, one digit more at a time
-
-pub masks_none : (w : ℕ) → replicate w 255 ≡ masks 0 w
-unfolding masks
-masks_none zero = refl
-masks_none (suc w) = ap (λ (ms : List ℕ). 255 ∷ ms) (masks_none w)
-
-pub masks_more : (n w : ℕ) → n < w → set (masks n w) n 240 ≡ masks (suc n) w
-unfolding masks
-masks_more n zero h = absurd (omega arith)
-masks_more zero (suc w) h = refl
-masks_more (suc n) (suc w) h = ap (λ (ms : List ℕ). 240 ∷ ms) (masks_more n w (le_of_suc-le-suc h))
-
-pub masks_whole : (n : ℕ) → n ≡ 32 → masks n 64 ≡ mask_table
-unfolding mask_table
-masks_whole n e = ap (λ (k : ℕ). masks k 64) e
-
 -- A WINDOW INTO THE TABLE
 
-pub table_long : length mask_table ≡ 64
+-- from 32 - n on it has the masks of n digits, and then those of 32 unused places
+window_is : (n : ℕ) (t : List ℕ) → t ≡ mask_table → n ≤ 32 → mid_of (32 - n) (64 - (32 - n)) t ≡ masks n (32 + n)
 unfolding mask_table
-table_long = length_masks 32 64
-
--- the window at 32 - n + i has the masks of the eight places from i on
-window_is : (n i : ℕ) → n ≤ 32 → i + 8 ≤ 32 → take 8 (drop (32 - n + i) mask_table) ≡ masks (n - i) 8
-unfolding mask_table
-window_is n i h k =
-    let a : 32 - (32 - n + i) ≡ n - i = omega arith in
-    ap (take 8) (masks_drop (32 - n + i) 32 64) ∙ masks_take 8 (32 - (32 - n + i)) (64 - (32 - n + i)) (omega arith) ∙ ap (λ (m : ℕ). masks m 8) a
+window_is n t t-is h =
+    let a : 32 - (32 - n) ≡ n = omega arith in
+    let b : 64 - (32 - n) ≡ 32 + n = omega arith in
+    rw (t-is, masks_drop (32 - n) 32 64, a, b) (masks_take (32 + n) n (32 + n) (le_refl (32 + n)))
 
 -- b is what the test of the eight places from i on gave, which were lent with all that is behind them, as their masks were
-pub window_pass : (n i : ℕ) (s ms : List ℕ) (b : Bool) → ms ≡ mask_table → n ≤ 32 → length s ≤ 32 → i + 8 ≤ length s → Bytes s
-    → b ≡ disjoint (take 8 (take (length s - i) (drop i s))) (take 8 (take (length ms - (32 - n + i)) (drop (32 - n + i) ms)))
+pub window_pass : (n i : ℕ) (s t : List ℕ) (b : Bool) → t ≡ mask_table → n ≤ 32 → length s ≤ 32 → i + 8 ≤ length s → Bytes s
+    → let w = mid_of (32 - n) (64 - (32 - n)) t in b ≡ disjoint (take 8 (mid_of i (length s - i) s)) (take 8 (mid_of i (length w - i) w))
     → b ≡ places_pass (n - i) (take 8 (drop i s))
-window_pass n i s ms b ms-is few wide inside bytes b-is =
-    let k = 32 - n + i in
+window_pass n i s t b t-is few wide inside bytes b-is =
     let xs = take 8 (drop i s) in
     let l : length xs ≡ 8 = length-take-le 8 (drop i s) (rw length-drop (omega arith)) in
-    let w : take 8 (drop k ms) ≡ masks (n - i) 8 = ap (λ (t : List ℕ). take 8 (drop k t)) ms-is ∙ window_is n i few (omega arith) in
-    let m : take 8 (drop k ms) ≡ masks (n - i) (length xs) = w ∙ ap (masks (n - i)) (sym l) in
-    b-is ∙ (rw (rest_is i s, rest_is k ms) (ap (disjoint xs) m) ∙ masks_pass (n - i) xs (bytes_front 8 (drop i s) (bytes_behind i s bytes)))
+    let m : take 8 (drop i (masks n (32 + n))) ≡ masks (n - i) (length xs) = rw (l, masks_drop i n (32 + n)) (masks_take 8 (n - i) (32 + n - i) (omega arith)) in
+    b-is ∙ (rw (rest_is i s, rest_is i _, window_is n t t-is few, m) (masks_pass (n - i) xs (bytes_front 8 (drop i s) (bytes_behind i s bytes))))

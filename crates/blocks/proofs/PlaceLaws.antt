@@ -1,15 +1,16 @@
 -- The places of a digit string, tested a part at a time.
-use Prim.Native.Nat.{ℕ, zero, suc, ◌+◌, ◌-◌, ◌≤◌}
+use Prim.Native.Nat.{ℕ, zero, suc, min, ◌+◌, ◌-◌, ◌≤◌}
+use Rattle.std.proofs.lemmas.List.{take_min, drop_min}
 use mathlib.Core.Path.{◌≡◌, refl, sym, ap, ◌∙◌}
 use mathlib.Core.List.{List, [], ◌∷◌}
-use mathlib.Core.Bool.{Bool, true, false, ◌&&◌, and_assoc, and-true, and-false}
+use mathlib.Core.Bool.{Bool, true, false, ◌&&◌, and_assoc, and-false}
 use native.Mathlib.Nat.{sub-zero, zero-sub, suc-sub-suc}
 use native.Mathlib.Omega.{arith}
-use lib.ListN.{length, take, drop, length-drop, drop_of_length-le}
+use lib.ListN.{length, take, drop, length-drop}
 use lib.Seq.{take_all, take-take}
 use Rattle.meaning.specs.Basics.{all, is_zero, is_digit}
 use Rattle.meaning.proofs.Tests.{is_true, true_is, and_left}
-use Rattle.buffer.proofs.ListLaws.{drop_take, rest_is}
+use Rattle.buffer.proofs.ListLaws.{drop_take}
 use Rattle.blocks.specs.Places.{places_pass}
 
 -- PARTS
@@ -30,20 +31,9 @@ pass_parts (suc i) (suc n) (x ∷ s) = rw (pass_parts i n s, suc-sub-suc, and_as
 
 -- A BYTE AT A TIME
 
-module _ (n : ℕ) (s : List ℕ) where
-  -- nothing stands behind the digits
-  pub few_full : (b : Bool) → length s ≤ n → b ≡ all is_digit s → b ≡ places_pass n s
-  few_full b h e = e ∙ sym (pass_is n s ∙ rw (take_all n s h, drop_of_length-le s {i = n} h, and-true))
-
-  module _ (b : Bool) (b-is : b ≡ all is_digit (take (n - 0) s)) where
-    few_is : places_pass n s ≡ (b && all is_zero (drop n s))
-    few_is = pass_is n s ∙ rw (b-is, sub-zero)
-
-    pub few_wrong : b ≡ false → places_pass n s ≡ false
-    few_wrong e = few_is ∙ rw e
-
-    pub few_unused : (z : Bool) → b ≡ true → z ≡ all is_zero (take (length s - n) (drop n s)) → z ≡ places_pass n s
-    few_unused z e z-is = z-is ∙ rw (rest_is n s) (sym (few_is ∙ rw e))
+-- the digits end before place n or where the places do
+pub few_is : (n d : ℕ) (s : List ℕ) → d ≡ min n (length s) → places_pass n s ≡ (all is_digit (take d s) && all is_zero (drop d s))
+few_is n d s e = pass_is n s ∙ rw (e, take_min n s, drop_min n s)
 
 -- A BLOCK AT A TIME
 

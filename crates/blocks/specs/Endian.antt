@@ -1,10 +1,5 @@
 -- Bytes as one number, the lowest byte first.
-use Rattle.std.specs.Prelude.{ℕ, zero, suc, ◌+◌, ◌*◌, ◌/◌, ◌%◌, ◌<◌, ◌≡◌, List, [], ◌∷◌}
-
--- r is the byte x
-pub record WideByte (x r : ℕ) : Type 0 where
-  pub is : r ≡ x
-  pub small : r < 256
+use Rattle.std.specs.Prelude.{ℕ, zero, suc, ◌+◌, ◌*◌, ◌/◌, ◌%◌, List, [], ◌∷◌}
 
 -- the number that bytes give
 unfoldable pub little_endian : List ℕ → ℕ

@@ -4,4 +4,3 @@ pub mod Moves
 pub mod SlotLaws
 pub mod Passing
 pub mod DigitLaws
-pub mod SameBytes

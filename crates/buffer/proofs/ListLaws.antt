@@ -4,6 +4,7 @@ use mathlib.Core.Path.{◌≡◌, refl, sym, ap, ap₂, ◌∙◌}
 use mathlib.Core.List.{List, [], ◌∷◌, ◌++◌, map, map-append, append-nil}
 use mathlib.Core.Option.{none, some}
 use native.Mathlib.Nat.{not-suc-le-zero, le_of_suc-le-suc, sub-zero}
+use native.Mathlib.Numerals.{add-one}
 use native.Mathlib.Omega.{arith}
 use lib.Seq.{take-nil, take-take, take_all, drop-length}
 use lib.ListN.{length, take, drop, get_or, set, get_elem?, length-append, length-take, length-drop}
@@ -46,6 +47,16 @@ module _ {A : Type 0} where
   no_element [] k h = refl
   no_element (x ∷ xs) zero h = absurd (not-suc-le-zero h)
   no_element (x ∷ xs) (suc k) h = no_element xs k (le_of_suc-le-suc h)
+
+  -- a part of two elements written over
+  pub two_stores : (xs : List A) (i : ℕ) (x y : A) → i + 1 < length xs → put_mid i (i + 2 - i) xs (x ∷ y ∷ []) ≡ set (set xs i x) (i + 1) y
+  two_stores xs i x y h = let two : i + 2 - i ≡ 2 = omega arith in rw (two, add-one) (go xs i (omega arith))
+    where
+      go : (xs : List A) (i : ℕ) → suc i < length xs → put_mid i 2 xs (x ∷ y ∷ []) ≡ set (set xs i x) (suc i) y
+      go [] i h = absurd (not-suc-le-zero h)
+      go (a ∷ []) zero h = absurd (omega arith)
+      go (a ∷ b ∷ xs) zero h = refl
+      go (a ∷ xs) (suc i) h = ap (λ (ys : List A). a ∷ ys) (go xs i (le_of_suc-le-suc h))
 
 module _ {A B : Type 0} (f : A → B) where
   pub map_take : (i : ℕ) (xs : List A) → map f (take i xs) ≡ take i (map f xs)

@@ -1,12 +1,13 @@
--- A loop that tests every element of a list: what is left decides.
+-- A test of every element of a list, by a chain or by a loop in which what is left decides.
 use Prim.Native.Nat.{ℕ, suc, ◌+◌, ◌-◌, ◌*◌, ◌≤◌, ◌<◌}
-use mathlib.Core.Path.{◌≡◌, refl, ◌∙◌}
-use mathlib.Core.List.{List, []}
+use mathlib.Core.Path.{◌≡◌, refl, ap, ◌∙◌}
+use mathlib.Core.List.{List, [], ◌∷◌}
 use mathlib.Core.Bool.{Bool, true, false, ◌&&◌}
 use native.Mathlib.Numerals.{add-one}
 use native.Mathlib.Omega.{arith}
 use lib.ListN.{length, take, drop, get_or, drop_of_length-le}
 use lib.Seq.{drop-cons}
+use Rattle.std.specs.List.{list_all}
 use Rattle.meaning.specs.Basics.{all}
 use Rattle.buffer.specs.Slots.{slots}
 use Rattle.buffer.proofs.SlotLaws.{slot_at, length_slots}
@@ -18,6 +19,11 @@ and-true false = refl
 pub and-false : (a : Bool) → (a && false) ≡ false
 and-false true = refl
 and-false false = refl
+
+-- the library's test of every element
+pub all_is : {A : Type 0} (ok : A → Bool) (xs : List A) → list_all ok xs ≡ all ok xs
+all_is ok [] = refl
+all_is ok (x ∷ xs) = ap (λ (b : Bool). ok x && b) (all_is ok xs)
 
 -- the elements before i have passed
 abbrev pub Passed : {A : Type 0} → (A → Bool) → List A → ℕ → Type 0

@@ -1,13 +1,15 @@
 -- Laws of slots, over any width.
-use Prim.Native.Nat.{ℕ, zero, suc, ◌+◌, ◌*◌, ◌-◌, ◌≤◌, ◌<◌}
+use Prim.Native.Nat.{ℕ, zero, suc, ◌+◌, ◌*◌, ◌-◌, ◌/◌, ◌≤◌, ◌<◌}
 use mathlib.Core.Path.{◌≡◌, refl, sym, ap, ◌∙◌}
 use mathlib.Core.List.{List, [], ◌∷◌, ◌++◌, append_assoc, append-nil}
-use native.Mathlib.Nat.{mul-suc, mul-zero, mul-add, mul-le-mul_left, not-suc-le-zero, le_of_suc-le-suc, sub-zero}
+use native.Mathlib.Nat.{mul-suc, mul-zero, mul-add, mul_comm, mul-div_cancel_left, mul-le-mul_left, not-suc-le-zero, le_of_suc-le-suc, sub-zero}
 use native.Mathlib.Numerals.{add-one}
 use native.Mathlib.Omega.{arith}
 use lib.ListN.{length, take, drop, get_or, set, length-append, length-drop, take-append-drop}
 use lib.Seq.{take_at, drop_at, take-add, drop-drop, take-take, length-take-le, set_split}
 use borrow.Rule.Slice.PartMut.{put_mid, mid_of, Post-is, mid_len}
+use Rattle.std.specs.Simd.{first_chunks}
+use Rattle.std.proofs.lemmas.Nat.{le-div}
 use Rattle.buffer.specs.Slots.{slots, flat, Wide, with_slots, insert_at, remove_at}
 use Rattle.buffer.proofs.ListLaws.{drop_take}
 
@@ -85,6 +87,21 @@ pub slots_next : (w i n : ℕ) (m : List ℕ) → i < n
 slots_next w i n m h =
     let k : n - i ≡ suc (n - (i + 1)) = omega arith in
     rw (k, times_more w i, ← drop-drop w (w * i) m)
+
+-- THE CHUNKS THAT BYTES ARE CUT INTO ARE SLOTS
+
+chunks_as : (w k : ℕ) (m : List ℕ) → first_chunks w k m ≡ slots w k m
+chunks_as w zero m = refl
+chunks_as w (suc k) m = ap (λ (ss : List (List ℕ)). take w m ∷ ss) (chunks_as w k (drop w m))
+
+-- bytes of n slots, and the first n chunks of bytes that hold more
+pub whole_slots : (w n : ℕ) (m : List ℕ) → 0 < w → length m ≡ w * n → first_chunks w (length m / w) m ≡ slots w n m
+whole_slots w n m h e = let k : length m / w ≡ n = rw e (mul-div_cancel_left n h) in rw k (chunks_as w n m)
+
+pub lent_slots : (w n : ℕ) (m : List ℕ) → 0 < w → w * n ≤ length m → take n (first_chunks w (length m / w) m) ≡ slots w n m
+lent_slots w n m h l =
+    let k : n ≤ length m / w = le-div n (length m) w h (rw (mul_comm n w) l) in
+    rw (chunks_as w (length m / w) m) (slots_first w n (length m / w) m k)
 
 -- WHAT STANDS BEHIND THE SLOTS DOES NOT MATTER
 

@@ -1,8 +1,8 @@
 -- Runs of unused bytes: their length, their elements, and that a list passes the test for them exactly if it is one.
-use Prim.Native.Nat.{ℕ, zero, suc, ◌+◌, ◌<◌}
+use Prim.Native.Nat.{ℕ, zero, suc, ◌+◌}
 use mathlib.Core.Path.{◌≡◌, refl, ap, ◌∙◌}
 use mathlib.Core.List.{List, [], ◌∷◌, ◌++◌}
-use lib.ListN.{length, take, drop, get_or, length-replicate, get_or-replicate, replicate-append-replicate}
+use lib.ListN.{length, take, drop, length-replicate, replicate-append-replicate}
 use lib.Dec.{T, eqb→eq}
 use lib.Seq.{take_at, drop_at}
 use Rattle.meaning.specs.Basics.{all, is_zero}
@@ -16,10 +16,6 @@ length_zeros n = length-replicate n 0
 pub zeros_add : (n m : ℕ) → zeros n ++ zeros m ≡ zeros (n + m)
 unfolding zeros
 zeros_add n m = replicate-append-replicate n m 0
-
-pub get_d_zeros : (n i : ℕ) → i < n → get_or (zeros n) i 0 ≡ 0
-unfolding zeros
-get_d_zeros n i h = get_or-replicate n i 0 0 h
 
 pub take_zeros : (n m : ℕ) → take n (zeros (n + m)) ≡ zeros n
 take_zeros n m = rw (← zeros_add n m) (take_at (zeros n) (zeros m) n (length_zeros n))

@@ -1,15 +1,11 @@
 -- Bytes as numbers, and numbers of two and four bytes in a list of bytes.
-use Rattle.std.specs.Prelude.{ℕ, ◌+◌, ◌/◌, ◌%◌, ◌<◌, ◌≡◌, List, Bool, set, leb}
+use Rattle.std.specs.Prelude.{ℕ, ◌+◌, ◌/◌, ◌%◌, ◌<◌, ◌≡◌, List, set}
 use Rattle.meaning.specs.Basics.{word, quad}
 
 -- r is the byte x
 pub record Byte (x r : ℕ) : Type 0 where
   pub is : r ≡ x
   pub small : r < 256
-
--- a byte that is not above `top`
-abbrev pub at_most : ℕ → ℕ → Bool
-at_most top x = leb x top
 
 -- r is the two-byte number at a place
 pub record Word (b : List ℕ) (at r : ℕ) : Type 0 where

@@ -3,7 +3,7 @@
 
 ghost use Rattle.std.specs.Prelude.{◌≡◌, ◌++◌, [], ◌∷◌, ◌+◌, ◌*◌, ◌-◌, ◌<◌, ◌≤◌, length, take, drop};
 ghost use Rattle.meaning.specs.Basics.{written_over, all, is_zero, is_digit, same_bytes};
-ghost use Rattle.buffer.specs.Bytes.{Byte, Word, Quad, at_most, with_word};
+ghost use Rattle.buffer.specs.Bytes.{Byte, Word, Quad, with_word};
 ghost use Rattle.buffer.specs.Zeros.{zeros};
 ghost use Rattle.buffer.specs.Slots.{slots, with_slots, insert_at, remove_at};
 
@@ -11,7 +11,7 @@ ghost use Rattle.buffer.specs.Slots.{slots, with_slots, insert_at, remove_at};
 pub fn wide(x: u8) -> usize
     ensures { Byte x result }
 {
-    x as usize
+    usize::from(x)
 }
 
 // The bytes of `from` over the front of `to`; the bytes behind them stay.
@@ -19,22 +19,14 @@ pub fn copy(to: &mut [u8], from: &[u8])
     requires { length from.now ≤ length to.old }
     ensures { to.new ≡ written_over from.now to.old }
 {
-    let mut i = 0;
-    while i < from.len() {
-        to[i] = from[i];
-        i += 1;
-    }
+    to[..from.len()].copy_from_slice(from);
 }
 
 // All bytes 0.
 pub fn clear(s: &mut [u8])
     ensures { s.new ≡ zeros (length s.old) }
 {
-    let mut i = 0;
-    while i < s.len() {
-        s[i] = 0;
-        i += 1;
-    }
+    s.fill(0);
 }
 
 // The bytes of s, w places further up; the first w stay.
@@ -42,11 +34,8 @@ pub fn shift_up(s: &mut [u8], w: usize)
     requires { w ≤ length s.old }
     ensures { s.new ≡ take w s.old ++ take (length s.old - w) s.old }
 {
-    let mut i = s.len() - w;
-    while 0 < i {
-        i -= 1;
-        s[i + w] = s[i];
-    }
+    let n = s.len() - w;
+    s.copy_within(..n, w);
 }
 
 // The bytes of s, w places further down; the last w stay.
@@ -54,12 +43,7 @@ pub fn shift_down(s: &mut [u8], w: usize)
     requires { w ≤ length s.old }
     ensures { s.new ≡ drop w s.old ++ drop (length s.old - w) s.old }
 {
-    let n = s.len() - w;
-    let mut i = 0;
-    while i < n {
-        s[i] = s[i + w];
-        i += 1;
-    }
+    s.copy_within(w.., 0);
 }
 
 // Puts x before the bytes of s, of which the last ones fall out.
@@ -86,7 +70,7 @@ pub fn word(b: &[u8], at: usize) -> usize
     requires { at + 1 < length b.now }
     ensures { Word b.now at result }
 {
-    wide(b[at]) * 256 + wide(b[at + 1])
+    usize::from(u16::from_be_bytes([b[at], b[at + 1]]))
 }
 
 // The four-byte number at `at`, high byte first.
@@ -94,7 +78,7 @@ pub fn quad(b: &[u8], at: usize) -> usize
     requires { at + 3 < length b.now }
     ensures { Quad b.now at result }
 {
-    word(b, at) * 65536 + word(b, at + 2)
+    u32::from_be_bytes([b[at], b[at + 1], b[at + 2], b[at + 3]]) as usize
 }
 
 // Stores v at `at` in two bytes.
@@ -102,53 +86,28 @@ pub fn put_word(b: &mut [u8], at: usize, v: usize)
     requires { (at + 1 < length b.old) × (v < 65536) }
     ensures { b.new ≡ with_word b.old at v }
 {
-    b[at] = (v / 256) as u8;
-    b[at + 1] = (v % 256) as u8;
-}
-
-// Whether no byte is above `top`.
-fn all_at_most(s: &[u8], top: u8) -> bool
-    ensures { result ≡ all (at_most top) s.now }
-{
-    let mut i = 0;
-    while i < s.len() {
-        if top < s[i] {
-            return false;
-        }
-        i += 1;
-    }
-    true
+    b[at..at + 2].copy_from_slice(&(v as u16).to_be_bytes());
 }
 
 // Whether every byte is 0.
 pub fn all_zero(s: &[u8]) -> bool
     ensures { result ≡ all is_zero s.now }
 {
-    all_at_most(s, 0)
+    s.iter().all(|&b| b == 0)
 }
 
 // Whether every byte is a digit.
 pub fn all_digits(s: &[u8]) -> bool
     ensures { result ≡ all is_digit s.now }
 {
-    all_at_most(s, 15)
+    s.iter().all(|&b| b <= 15)
 }
 
 // Whether two slices have the same bytes.
 pub fn same_bytes(a: &[u8], b: &[u8]) -> bool
     ensures { result ≡ same_bytes a.now b.now }
 {
-    if a.len() != b.len() {
-        return false;
-    }
-    let mut i = 0;
-    while i < a.len() {
-        if a[i] != b[i] {
-            return false;
-        }
-        i += 1;
-    }
-    true
+    a == b
 }
 
 // Puts x into the first `count` slots of w bytes, before slot `place`.

@@ -18,8 +18,9 @@ use Rattle.meaning.specs.Calls.{Operation, open_plan, Call, lacks_bytes, refusal
 use Rattle.meaning.specs.Answers.{AnswersRead, refusal_of_written, bytes_written, place_chosen, answered_as}
 use Rattle.meaning.specs.Examples.{Query, choice, answered, condition, nothing, shown_rule, shown_answer, shown_read, shown_choice, MEMORY, shown, Row, table, Holds}
 use Rattle.meaning.specs.declared.Answered.{Answered}
-use Rattle.meaning.specs.declared.Written.{Written}
-use Rattle.meaning.specs.declared.Chosen.{Chosen}
+use Rattle.std.specs.Prelude.{Result, Option as Optional}
+use Rattle.meaning.specs.declared.Refusal.{Refusal}
+use Rattle.meaning.specs.declared.RulePlace.{RulePlace}
 use Rattle.meaning.proofs.Tests.{is_true, and_left, and_right}
 use Rattle.meaning.proofs.CallKinds.{is_opening, Asks, opens, changes, asks, not_both}
 use Rattle.meaning.proofs.Examples.{marked_examples}
@@ -34,10 +35,10 @@ use Rattle.reads.specs.Promises.{GivesRead, ConditionedPromise}
 abbrev shown_answered : Answered → List ℕ → List ℕ
 shown_answered a out = a.refusal ∷ a.outcome ∷ a.class ∷ a.response ∷ a.count ∷ (a.actions ++ (a.digits ∷ take a.digits out))
 
-abbrev shown_written : Written → List ℕ → List ℕ
+abbrev shown_written : Result ℕ Refusal → List ℕ → List ℕ
 shown_written w out = refusal_of_written w ∷ take (bytes_written w) out
 
-abbrev rule_chosen : Option Plan → Chosen → List ℕ
+abbrev rule_chosen : Option Plan → Optional RulePlace → List ℕ
 rule_chosen none c = []
 rule_chosen (some p) c = shown_rule (rule_at p.rules (place_chosen c))
 
@@ -47,9 +48,9 @@ place_in (some p) class ds = chosen_place class ds p.rules
 
 -- what is asked of a memory, of every result that meets the promise
 abbrev pub Asked : Query → List ℕ → List ℕ → Type 0
-Asked (choice class ds) m result = (c : Chosen) → place_chosen c ≡ place_in (state_of m) class ds → rule_chosen (state_of m) c ≡ result
+Asked (choice class ds) m result = (c : Optional RulePlace) → place_chosen c ≡ place_in (state_of m) class ds → rule_chosen (state_of m) c ≡ result
 Asked (answered b) m result = (out after : List ℕ) (a : Answered) → length out ≡ DIGIT-ROOM → AnswerPromise m b out after a → shown_answered a after ≡ result
-Asked (condition class ds) m result = (out after : List ℕ) (w : Written) → length out ≡ DIGIT-ROOM → ConditionedPromise m class ds out after w → shown_written w after ≡ result
+Asked (condition class ds) m result = (out after : List ℕ) (w : Result ℕ Refusal) → length out ≡ DIGIT-ROOM → ConditionedPromise m class ds out after w → shown_written w after ≡ result
 Asked nothing m result = [] ≡ result
 
 -- a row over any memory of just the bytes that its rooms need: each call is answered with its number, and what is asked with the row's result
@@ -64,11 +65,11 @@ front xs out = take_at xs (drop (length xs) out) (length xs) refl
 gives_answer : (a : Answer) (out after : List ℕ) (r : Answered) → GivesAnswer a out after r → shown_answered r after ≡ shown_answer a
 gives_answer a out after r g = rw (g.result, g.buffer) (ap (λ (l : List ℕ). a.refusal ∷ a.outcome ∷ a.class ∷ a.response ∷ a.count ∷ (a.actions ++ (length a.digits ∷ l))) (front a.digits out))
 
-gives_read : (read : Read) (out after : List ℕ) (w : Written) → GivesRead read out after w → shown_written w after ≡ shown_read read
+gives_read : (read : Read) (out after : List ℕ) (w : Result ℕ Refusal) → GivesRead read out after w → shown_written w after ≡ shown_read read
 gives_read read out after w g =
     rw (g.result.refusal, g.result.bytes, g.buffer) (ap (λ (l : List ℕ). read.refusal ∷ l) (front read.bytes out))
 
-chosen_shown : (s : Option Plan) (class : ℕ) (ds : List ℕ) (c : Chosen) → place_chosen c ≡ place_in s class ds → rule_chosen s c ≡ shown_choice s class ds
+chosen_shown : (s : Option Plan) (class : ℕ) (ds : List ℕ) (c : Optional RulePlace) → place_chosen c ≡ place_in s class ds → rule_chosen s c ≡ shown_choice s class ds
 unfolding chosen
 chosen_shown none class ds c e = refl
 chosen_shown (some p) class ds c e = ap (λ (o : Option ℕ). shown_rule (rule_at p.rules o)) e

@@ -5,7 +5,8 @@ use Rattle.meaning.specs.Basics.{written_over}
 use Rattle.meaning.specs.Reads.{Read, Count}
 use Rattle.meaning.specs.Compare.{Comparison}
 use Rattle.meaning.specs.Answers.{refusal_of_written, bytes_written}
-use Rattle.meaning.specs.declared.Written.{Written}
+use Rattle.std.specs.Prelude.{Result, replicate}
+use Rattle.meaning.specs.declared.Refusal.{Refusal}
 use Rattle.meaning.specs.Ledger.{ledger_of}
 use Rattle.meaning.specs.declared.ListedRule.{ListedRule}
 use Rattle.meaning.specs.declared.Taken.{Taken}
@@ -19,7 +20,7 @@ use Rattle.capi.specs.declared.NppCompared.{NppCompared}
 use Rattle.capi.specs.declared.NppLoss.{NppLoss}
 
 -- every field of what a call that writes gives
-pub record WrittenAs (w : Written) (r : NppWritten) : Type 0 where
+pub record WrittenAs (w : Result ℕ Refusal) (r : NppWritten) : Type 0 where
   pub refusal : r.refusal ≡ refusal_of_written w
   pub bytes : r.bytes ≡ bytes_written w
 
@@ -28,14 +29,10 @@ pub record CountedAs (c : Count) (r : NppCounted) : Type 0 where
   pub refusal : r.refusal ≡ c.refusal
   pub rules : r.rules ≡ c.number
 
--- every field of a rule of the listing
-pub record ListedAs (l : ListedRule) (r : NppListed) : Type 0 where
-  pub refusal : r.refusal ≡ l.refusal
-  pub class : r.class ≡ l.class
-  pub digits : r.digits ≡ l.digits
-  pub length : r.length ≡ l.length
-  pub prefix : r.prefix ≡ l.prefix
-  pub set : r.set ≡ l.set.0
+-- every field of a rule of the listing, and every other field 0 where there is a refusal
+abbrev pub listed_as : ℕ × Option ListedRule → NppListed
+listed_as (n, none) = record { refusal = n; class = 0; digits = 0; length = 0; prefix = replicate 16 0; set = 0 }
+listed_as (n, some l) = record { refusal = n; class = l.class; digits = l.digits; length = l.length; prefix = l.prefix; set = l.set.0 }
 
 -- a read that writes: every field of its result, and what the buffer holds afterwards
 pub record GivesWritten (read : Read) (out after : List ℕ) (r : NppWritten) : Type 0 where

@@ -3,7 +3,7 @@
 
 ghost use Rattle.std.specs.Prelude.{◌≡◌, length};
 ghost use Rattle.meaning.specs.Calls.{open_plan, add_set, replace_set, remove_set, add_rule, change_rule, remove_rule};
-ghost use Rattle.meaning.specs.Answers.{count_of, rule_listed, compared_of, loss_given};
+ghost use Rattle.meaning.specs.Answers.{count_of, rule_given, rule_wanted, loss_given};
 ghost use Rattle.meaning.specs.Compare.{comparison};
 ghost use Rattle.meaning.specs.Ledger.{ledger_of, loss_read, total_read};
 ghost use Rattle.meaning.specs.Reads.{conditioned, set_content, referrer_count, rule_count, rule_at_place};
@@ -14,12 +14,12 @@ ghost use Rattle.prices.specs.Promises.{AddsPrice};
 ghost use Rattle.charging.specs.Promises.{Takes};
 ghost use Rattle.reads.specs.Promises.{SpanPromise};
 ghost use Rattle.history.specs.Replays.{Replays};
-ghost use Rattle.capi.specs.Given.{WrittenAs, CountedAs, ListedAs, GivesWritten, ComparedAs, GivesCompared, loss_as};
+ghost use Rattle.capi.specs.Given.{WrittenAs, CountedAs, listed_as, GivesWritten, ComparedAs, GivesCompared, loss_as};
 
+use meaning::refusals::ACCEPTED;
 use meaning::sizes::{LEDGER_NUMBERS, PRICES_BYTES};
 use meaning::{
-    Answered, Compared, Counted, ListedRule, LossAnswer, RulePlace, SetNumber, Span, Totals,
-    Written,
+    Answered, ListedRule, Loss, Refusal, RulePlace, SetNumber, Span, Totals, answer_number,
 };
 
 // What a call that writes gives: the number of its refusal or 0, and how many bytes it wrote.
@@ -82,7 +82,7 @@ pub extern "C" fn npp_sound(memory: &[u8]) -> bool
 pub extern "C" fn npp_open(plan: &mut [u8], body: &[u8]) -> u8
     ensures { Provides (calls open_plan body.now) plan.old plan.new result }
 {
-    provision::open(plan, body).number()
+    answer_number(provision::open(plan, body))
 }
 
 // Adds a set.
@@ -90,7 +90,7 @@ pub extern "C" fn npp_open(plan: &mut [u8], body: &[u8]) -> u8
 pub extern "C" fn npp_add_set(plan: &mut [u8], body: &[u8]) -> u8
     ensures { Provides (calls add_set body.now) plan.old plan.new result }
 {
-    provision::add_set(plan, body).number()
+    answer_number(provision::add_set(plan, body))
 }
 
 // Replaces the content of a set.
@@ -98,7 +98,7 @@ pub extern "C" fn npp_add_set(plan: &mut [u8], body: &[u8]) -> u8
 pub extern "C" fn npp_replace_set(plan: &mut [u8], body: &[u8]) -> u8
     ensures { Provides (calls replace_set body.now) plan.old plan.new result }
 {
-    provision::replace_set(plan, body).number()
+    answer_number(provision::replace_set(plan, body))
 }
 
 // Removes a set that no rule names.
@@ -106,7 +106,7 @@ pub extern "C" fn npp_replace_set(plan: &mut [u8], body: &[u8]) -> u8
 pub extern "C" fn npp_remove_set(plan: &mut [u8], body: &[u8]) -> u8
     ensures { Provides (calls remove_set body.now) plan.old plan.new result }
 {
-    provision::remove_set(plan, body).number()
+    answer_number(provision::remove_set(plan, body))
 }
 
 // Adds a rule.
@@ -114,7 +114,7 @@ pub extern "C" fn npp_remove_set(plan: &mut [u8], body: &[u8]) -> u8
 pub extern "C" fn npp_add_rule(plan: &mut [u8], body: &[u8]) -> u8
     ensures { Provides (calls add_rule body.now) plan.old plan.new result }
 {
-    provision::add_rule(plan, body).number()
+    answer_number(provision::add_rule(plan, body))
 }
 
 // Changes the set that a rule names.
@@ -122,7 +122,7 @@ pub extern "C" fn npp_add_rule(plan: &mut [u8], body: &[u8]) -> u8
 pub extern "C" fn npp_change_rule(plan: &mut [u8], body: &[u8]) -> u8
     ensures { Provides (calls change_rule body.now) plan.old plan.new result }
 {
-    provision::change_rule(plan, body).number()
+    answer_number(provision::change_rule(plan, body))
 }
 
 // Removes a rule.
@@ -130,7 +130,7 @@ pub extern "C" fn npp_change_rule(plan: &mut [u8], body: &[u8]) -> u8
 pub extern "C" fn npp_remove_rule(plan: &mut [u8], body: &[u8]) -> u8
     ensures { Provides (calls remove_rule body.now) plan.old plan.new result }
 {
-    provision::remove_rule(plan, body).number()
+    answer_number(provision::remove_rule(plan, body))
 }
 
 // Answers a number.
@@ -141,18 +141,20 @@ pub extern "C" fn npp_answer<'a>(plan: &'a [u8], body: &'a [u8], out: &mut [u8])
     number::answer(plan, body, out)
 }
 
-fn written(w: Written) -> NppWritten
-    ensures { WrittenAs w result }
-{
-    match w {
-        Written::Bytes(n) => NppWritten {
-            refusal: 0,
-            bytes: n,
-        },
-        Written::Refused(r) => NppWritten {
-            refusal: r.number(),
-            bytes: 0,
-        },
+impl From<Result<usize, Refusal>> for NppWritten {
+    ghost from_gives = { WrittenAs };
+
+    fn from(written: Result<usize, Refusal>) -> NppWritten {
+        match written {
+            Ok(bytes) => NppWritten {
+                refusal: ACCEPTED,
+                bytes,
+            },
+            Err(refusal) => NppWritten {
+                refusal: u8::from(refusal),
+                bytes: 0,
+            },
+        }
     }
 }
 
@@ -166,7 +168,7 @@ pub extern "C" fn npp_conditioned<'a>(
 ) -> NppWritten
     ensures { GivesWritten (conditioned (state_of plan.now) (length out.old) class digits.now) out.old out.new result }
 {
-    written(reads::conditioned(plan, class, digits, out))
+    NppWritten::from(reads::conditioned(plan, class, digits, out))
 }
 
 // The content of a set.
@@ -174,21 +176,23 @@ pub extern "C" fn npp_conditioned<'a>(
 pub extern "C" fn npp_set_content(plan: &[u8], set: u16, out: &mut [u8]) -> NppWritten
     ensures { GivesWritten (set_content (state_of plan.now) (length out.old) set) out.old out.new result }
 {
-    written(reads::set_content(plan, SetNumber(set), out))
+    NppWritten::from(reads::set_content(plan, SetNumber(set), out))
 }
 
-fn counted(c: Counted) -> NppCounted
-    ensures { CountedAs (count_of c) result }
-{
-    match c {
-        Counted::Rules(n) => NppCounted {
-            refusal: 0,
-            rules: n,
-        },
-        Counted::Refused(r) => NppCounted {
-            refusal: r.number(),
-            rules: 0,
-        },
+impl From<Result<usize, Refusal>> for NppCounted {
+    ghost from_gives = { λ counted r. CountedAs (count_of counted) r };
+
+    fn from(counted: Result<usize, Refusal>) -> NppCounted {
+        match counted {
+            Ok(rules) => NppCounted {
+                refusal: ACCEPTED,
+                rules,
+            },
+            Err(refusal) => NppCounted {
+                refusal: u8::from(refusal),
+                rules: 0,
+            },
+        }
     }
 }
 
@@ -197,7 +201,7 @@ fn counted(c: Counted) -> NppCounted
 pub extern "C" fn npp_referrers(plan: &[u8], set: u16) -> NppCounted
     ensures { CountedAs (referrer_count (state_of plan.now) set) result }
 {
-    counted(reads::referrers(plan, SetNumber(set)))
+    NppCounted::from(reads::referrers(plan, SetNumber(set)))
 }
 
 // Where the stretch of a value starts and how many digits it has.
@@ -213,30 +217,43 @@ pub extern "C" fn npp_stretch(plan: &[u8], class: u8, digits: &[u8], value: u8) 
 pub extern "C" fn npp_rule_count(plan: &[u8]) -> NppCounted
     ensures { CountedAs (rule_count (state_of plan.now)) result }
 {
-    counted(listing::rule_count(plan))
+    NppCounted::from(listing::rule_count(plan))
 }
 
-fn listed(l: ListedRule) -> NppListed
-    ensures { ListedAs l result }
-{
-    let prefix = l.prefix;
-    let set = l.set;
-    NppListed {
-        refusal: l.refusal,
-        class: l.class,
-        digits: l.digits,
-        length: l.length,
-        prefix: prefix,
-        set: set.0,
+impl From<Result<ListedRule, Refusal>> for NppListed {
+    ghost from_gives = { λ listed r. r ≡ listed_as (rule_given listed) };
+
+    fn from(listed: Result<ListedRule, Refusal>) -> NppListed {
+        match listed {
+            Ok(rule) => {
+                let prefix = rule.prefix;
+                NppListed {
+                    refusal: ACCEPTED,
+                    class: rule.class,
+                    digits: rule.digits,
+                    length: rule.length,
+                    prefix,
+                    set: rule.set.0,
+                }
+            }
+            Err(refusal) => NppListed {
+                refusal: u8::from(refusal),
+                class: 0,
+                digits: 0,
+                length: 0,
+                prefix: [0; 16],
+                set: 0,
+            },
+        }
     }
 }
 
 // The rule at a place of the listing.
 #[unsafe(no_mangle)]
 pub extern "C" fn npp_rule_at(plan: &[u8], place: u16) -> NppListed
-    ensures { ListedAs (rule_listed (rule_at_place (state_of plan.now) place)) result }
+    ensures { result ≡ listed_as (rule_wanted (rule_at_place (state_of plan.now) place)) }
 {
-    listed(listing::rule_at(plan, RulePlace(place)))
+    NppListed::from(listing::rule_at(plan, RulePlace(place)))
 }
 
 // Runs a list of provisioning calls, given as house records, on one plan memory; writes the number of each, and answers how many were carried out.
@@ -249,18 +266,20 @@ pub extern "C" fn npp_replay(plan: &mut [u8], calls: &[u8], numbers: &mut [u8]) 
 
 // TWO PLANS SIDE BY SIDE
 
-fn compared(c: Compared) -> NppCompared
-    ensures { ComparedAs (compared_of c) result }
-{
-    match c {
-        Compared::Differences(n) => NppCompared {
-            refusal: 0,
-            differences: n,
-        },
-        Compared::Refused(r) => NppCompared {
-            refusal: r.number(),
-            differences: 0,
-        },
+impl From<Result<usize, Refusal>> for NppCompared {
+    ghost from_gives = { λ compared r. ComparedAs (count_of compared) r };
+
+    fn from(compared: Result<usize, Refusal>) -> NppCompared {
+        match compared {
+            Ok(differences) => NppCompared {
+                refusal: ACCEPTED,
+                differences,
+            },
+            Err(refusal) => NppCompared {
+                refusal: u8::from(refusal),
+                differences: 0,
+            },
+        }
     }
 }
 
@@ -269,7 +288,7 @@ fn compared(c: Compared) -> NppCompared
 pub extern "C" fn npp_compare<'a>(left: &'a [u8], right: &'a [u8], out: &mut [u8]) -> NppCompared
     ensures { GivesCompared (comparison (state_of left.now) (state_of right.now) (length out.old)) out.old out.new result }
 {
-    compared(compare::compare(left, right, out))
+    NppCompared::from(compare::compare(left, right, out))
 }
 
 // THE LOSS BY DISTRICT
@@ -279,7 +298,7 @@ pub extern "C" fn npp_compare<'a>(left: &'a [u8], right: &'a [u8], out: &mut [u8
 pub extern "C" fn npp_add_price(prices: &mut [u8; PRICES_BYTES], body: &[u8]) -> u8
     ensures { AddsPrice prices.old body.now prices.new result }
 {
-    prices::add_price(prices, body).number()
+    answer_number(prices::add_price(prices, body))
 }
 
 // Takes a call record. The ledger is changed where it stands: this is the one function that has its totals by reference.
@@ -294,35 +313,35 @@ pub extern "C" fn npp_take_call<'a>(
 ) -> Answered
     ensures { Takes plan.now prices.now (ledger_of districts.old whole.old) body.now out.old (ledger_of districts.new whole.new) out.new result }
 {
-    let v = *whole;
-    let t = charging::take_call(plan, prices, districts, v, body, out);
-    *whole = charging::whole_of(t);
-    charging::answer_of(t)
+    let t = charging::take_call(plan, prices, districts, *whole, body, out);
+    *whole = t.whole;
+    t.answer
 }
 
-// The fields of a loss that was read.
-fn loss_fields(answer: LossAnswer) -> NppLoss
-    ensures { result ≡ loss_as (loss_given answer) }
-{
-    match answer {
-        LossAnswer::Loss(loss) => NppLoss {
-            refusal: 0,
-            held: 1,
-            units: loss.units,
-            cents: loss.cents,
-        },
-        LossAnswer::NoRecords => NppLoss {
-            refusal: 0,
-            held: 0,
-            units: 0,
-            cents: 0,
-        },
-        LossAnswer::Refused(r) => NppLoss {
-            refusal: r.number(),
-            held: 0,
-            units: 0,
-            cents: 0,
-        },
+impl From<Result<Option<Loss>, Refusal>> for NppLoss {
+    ghost from_gives = { λ read r. r ≡ loss_as (loss_given read) };
+
+    fn from(read: Result<Option<Loss>, Refusal>) -> NppLoss {
+        match read {
+            Ok(Some(loss)) => NppLoss {
+                refusal: ACCEPTED,
+                held: 1,
+                units: loss.units,
+                cents: loss.cents,
+            },
+            Ok(None) => NppLoss {
+                refusal: ACCEPTED,
+                held: 0,
+                units: 0,
+                cents: 0,
+            },
+            Err(refusal) => NppLoss {
+                refusal: u8::from(refusal),
+                held: 0,
+                units: 0,
+                cents: 0,
+            },
+        }
     }
 }
 
@@ -335,7 +354,7 @@ pub extern "C" fn npp_district_loss(
 ) -> NppLoss
     ensures { result ≡ loss_as (loss_read (ledger_of districts.now whole) district) }
 {
-    loss_fields(ledger::district_loss(districts, whole, district))
+    NppLoss::from(ledger::district_loss(districts, whole, district))
 }
 
 // The loss of all districts.
@@ -343,5 +362,5 @@ pub extern "C" fn npp_district_loss(
 pub extern "C" fn npp_total_loss(districts: &[i64; LEDGER_NUMBERS], whole: Totals) -> NppLoss
     ensures { result ≡ loss_as (total_read (ledger_of districts.now whole)) }
 {
-    loss_fields(ledger::total_loss(districts, whole))
+    NppLoss::from(ledger::total_loss(districts, whole))
 }

@@ -1,27 +1,25 @@
 -- What any chain of calls does to the state: each call is answered with the refusal table's number over what was put in before, and what is in
 -- the memory is what was put in.
-use Prim.Native.Nat.{ℕ, zero, suc, ◌+◌, ◌≤◌, ◌<◌}
-use mathlib.Core.Path.{◌≡◌, refl, ap, ap₂, sym, subst, ◌∙◌}
-use mathlib.Core.Bool.{Bool, true, false, not}
-use mathlib.Core.List.{List, [], ◌∷◌, ◌++◌}
+use Prim.Native.Nat.{ℕ, ◌≤◌}
+use mathlib.Core.Path.{◌≡◌, refl, ap, ap₂, subst, ◌∙◌}
+use mathlib.Core.Bool.{Bool, true, false}
+use mathlib.Core.List.{List, ◌∷◌, ◌++◌}
 use mathlib.Core.Option.{Option, none, some}
 use native.Mathlib.Omega.{arith}
 use lib.ListN.{length, drop, length-append, length-drop}
-use lib.Dec.{T, ltb, nltb→le}
+use lib.Dec.{nltb→le}
 use borrow.Author.Tests.{eqb-true}
-use Rattle.meaning.specs.Basics.{is_zero}
-use Rattle.std.specs.Prelude.{if◌then◌else◌}
-use Rattle.meaning.specs.Refusals.{Line, first_of}
-use Rattle.meaning.specs.Settings.{Rooms, rooms_of, bytes_needed}
+use Rattle.meaning.specs.Refusals.{first_of}
+use Rattle.meaning.specs.Settings.{rooms_of, bytes_needed}
 use Rattle.meaning.specs.Plan.{Plan, rooms_in, fresh}
 use Rattle.meaning.specs.Calls.{Operation, open_plan, Call, body_of, opened_rooms, opening_lines, lacks_bytes, lines_of, refusal, made, is_accepted, after, put_in_from, put_in, refusals_from}
 use Rattle.meaning.proofs.Tests.{true_is, passed_at}
 use Rattle.meaning.proofs.CallKinds.{Asks, opens, changes, asks}
 use Rattle.meaning.proofs.Soundness.{Sound, SoundIf, accepted_passed, accepted_sound}
-use Rattle.plan.specs.Layout.{image, size_of, plan_of}
+use Rattle.plan.specs.Layout.{image, plan_of}
 use Rattle.plan.specs.State.{sound_of, state_of}
-use Rattle.plan.proofs.ImageLaws.{image_size, state_image, SoundMemory, sound_memory, state_some, state_none}
-use Rattle.changes.specs.Promise.{number_for, memory_of, memory_after, Provides, Chain, done, next}
+use Rattle.plan.proofs.ImageLaws.{image_size, state_image, sound_memory, state_some, state_none}
+use Rattle.changes.specs.Promise.{memory_of, memory_after, Provides, Chain, done, next}
 
 -- THE STATE OF A MEMORY IS SOUND, AND FITS
 

@@ -5,8 +5,8 @@ use mathlib.Core.Bool.{Bool}
 use mathlib.Core.List.{List}
 use lib.ListN.{get_or}
 use Rattle.meaning.specs.Sizes.{PREFIX-AT, LENGTH-AT}
-use Rattle.meaning.specs.Filters.{Filter, filter_of}
-use Rattle.meaning.specs.Actions.{ActionSet, actions_of}
+use Rattle.meaning.specs.Filters.{filter_of}
+use Rattle.meaning.specs.Actions.{actions_of}
 use Rattle.meaning.specs.Groups.{cas_fit, fit}
 use Rattle.filter.specs.Slots.{FilterBytes}
 use Rattle.filter.proofs.FilterLaws.{prefix_length}

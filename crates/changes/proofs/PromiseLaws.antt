@@ -1,22 +1,24 @@
 -- How a call meets its promise: it is refused by its first check, by the examiner, or by one of its own checks, or it leaves the image of what it made.
-use Prim.Native.Nat.{ℕ, zero, suc, ◌+◌, ◌≤◌, ◌<◌}
-use mathlib.Core.Path.{◌≡◌, refl, ap, ap₂, sym, ◌∙◌}
+use Prim.Native.Nat.{ℕ, ◌≤◌, ◌<◌}
+use mathlib.Core.Path.{◌≡◌, refl, ap, ap₂, sym, subst, ◌∙◌}
 use mathlib.Core.Logic.{◌≢◌}
-use mathlib.Core.Bool.{true, false, not}
-use mathlib.Core.List.{List, [], ◌∷◌, ◌++◌}
-use mathlib.Core.Option.{Option, none, some}
+use mathlib.Core.Bool.{true, false}
+use mathlib.Core.List.{List, ◌++◌}
+use mathlib.Core.Option.{Option, some}
 use native.Mathlib.Omega.{arith}
-use lib.ListN.{length, take, drop, length-take}
+use lib.ListN.{length, take, drop}
 use lib.Seq.{take-take, take_all, length-take-le}
-use lib.Dec.{T, ltb, eqb}
 use borrow.Author.Tests.{lt-ltb, le-ltb, ne_eqb}
 use Rattle.meaning.specs.Basics.{is_zero}
 use Rattle.std.specs.Prelude.{if◌then◌else◌}
-use Rattle.meaning.specs.Refusals.{CUT, KIND, PLAN, Line, first_of}
-use Rattle.meaning.specs.Settings.{Rooms, rooms_of, bytes_needed}
+use Rattle.meaning.specs.Refusals.{CUT, KIND, PLAN, first_of}
+use Rattle.meaning.specs.Settings.{rooms_of, bytes_needed}
 use Rattle.meaning.specs.Plan.{Plan, rooms_in}
-use Rattle.meaning.specs.Calls.{Operation, Call, kind_of, body_length, is_cut, body_of, lacks_bytes, lines_of, refusal, made, is_accepted, OPEN-PLAN, is_call, operation_of, call_of}
-use Rattle.meaning.proofs.CallKinds.{is_opening, plan_lines, not_both, kind_of_lem, other_call}
+use Rattle.meaning.specs.Answers.{edit_of, number_of_edit}
+use Rattle.meaning.specs.declared.kinds.Edit.{Edit}
+use Rattle.meaning.proofs.Telling.{edit_call, edit_asked}
+use Rattle.meaning.specs.Calls.{Operation, open_plan, Call, kind_of, body_length, body_of, lacks_bytes, lines_of, refusal, made, OPEN-PLAN, is_call, operation_of}
+use Rattle.meaning.proofs.CallKinds.{is_opening, plan_lines, not_both}
 use Rattle.plan.specs.Layout.{image, plan_of}
 use Rattle.plan.specs.State.{sound_of, state_of, rest_of}
 use Rattle.plan.proofs.ImageLaws.{state_some, state_none}
@@ -101,24 +103,19 @@ pub rest_behind : (m : List ℕ) (q : Plan) → q.rooms ≡ (plan_of m).rooms �
 unfolding plan_of
 rest_behind m q e = ap (λ (x : List ℕ). image q ++ drop (bytes_needed (rooms_of x)) m) (sym e)
 
--- BY KIND: `len` is the length that it fixes
+-- BY KIND: the call of a kind that opens or edits, and of any other byte
 
-module _ (k : ℕ) (call : is_call k ≡ true) (m b : List ℕ) (len : ℕ) (len_is : len ≡ body_length k) where
-  fixed : body_length (kind_of (operation_of k)) ≡ len
-  fixed = ap body_length (kind_of_lem k call) ∙ sym len_is
+module _ {k : ℕ} {b m after : List ℕ} {number : ℕ} where
+  pub opens_kind : OPEN-PLAN ≡ k → Provides (calls open_plan b) m after number → Carries k b m after number
+  unfolding is_call operation_of
+  opens_kind e p = subst (λ (k : ℕ). Carries k b m after number) e (record { call = λ _. p; no_call = λ h. not_both h refl })
 
-  pub kind_cut : length b < len → Provides (call_of k b) m m CUT
-  kind_cut h = cut (operation_of k) m b (rw fixed h)
-
-  pub kind_unsound : k ≢ OPEN-PLAN → len ≤ length b → sound_of m ≡ false → Provides (call_of k b) m m PLAN
-  kind_unsound other h s = unsound (operation_of k) m b (other_call k call other) (rw fixed h) s
-
-  pub kind_longer : len ≤ length b → (after : List ℕ) (number : ℕ) → Provides (call_of k (take len b)) m after number → Provides (call_of k b) m after number
-  kind_longer h after number p = longer (operation_of k) m b (rw fixed h) after number (rw fixed p)
-
--- the call of a kind that is a call's, and of any other byte
-pub carried : {k : ℕ} {b m after : List ℕ} {number : ℕ} → is_call k ≡ true → Provides (call_of k b) m after number → Carries k b m after number
-carried c p = record { call = λ e. p; no_call = λ e. not_both e c }
+  pub edits_kind : (x : Edit) → number_of_edit x ≡ k → Provides (calls (edit_of x) b) m after number → Carries k b m after number
+  edits_kind x e p =
+      subst (λ (k : ℕ). Carries k b m after number) e (record { call = λ _. rw (edit_asked x) p; no_call = λ h. not_both h (edit_call x) })
 
 pub no_kind : {k : ℕ} {b m : List ℕ} → is_call k ≡ false → Carries k b m m KIND
 no_kind c = record { call = λ e. not_both c e; no_call = λ e. (refl, refl) }
+
+pub other_kind : {k q : ℕ} {b m : List ℕ} → q ≡ k → is_call q ≡ false → Carries k b m m KIND
+other_kind e c = no_kind (sym (ap is_call e) ∙ c)

@@ -1,7 +1,7 @@
 // What a provisioning call promises, and what such calls ask of their bodies.
 #![tactic(auto)]
 
-ghost use Rattle.std.specs.Prelude.{◌≡◌, true, ◌+◌, ◌≤◌, ◌<◌, length};
+ghost use Rattle.std.specs.Prelude.{◌≡◌, ◌+◌, ◌≤◌, ◌<◌, length};
 ghost use Rattle.meaning.specs.Sizes.{CONTENT-BYTES, SET-BODY, FILTER-BYTES};
 ghost use Rattle.meaning.specs.Basics.{is_some, word};
 ghost use Rattle.meaning.specs.Filters.{filter_of};
@@ -11,10 +11,10 @@ ghost use Rattle.meaning.specs.Plan.{held};
 ghost use Rattle.meaning.specs.Reads.{over_room};
 ghost use Rattle.filter.specs.Slots.{FilterBytes};
 ghost use Rattle.plan.specs.Layout.{plan_of};
-ghost use Rattle.plan.specs.State.{sound_of};
 ghost use Rattle.changes.specs.Given.{ContentGiven, CodeGiven};
 
 use meaning::sizes::{FILTER_BYTES, LENGTH_AT, PREFIX_AT, SET_BODY, SET_NUMBER_BYTES};
+use plan::SoundPlan;
 
 // The content that the body of a set gives.
 pub fn content_given<'a>(body: &'a [u8]) -> &'a [u8]
@@ -33,19 +33,19 @@ pub fn code_given<'a>(body: &'a [u8]) -> &'a [u8]
 }
 
 // Whether the set number at a place of a body is at or over the room.
-pub fn is_over_room(plan: &[u8], body: &[u8], at: usize) -> bool
-    requires { (sound_of plan.now ≡ true) × (at + 1 < length body.now) }
-    ensures { result ≡ over_room (plan_of plan.now) (word body.now at) }
+pub fn is_over_room(plan: SoundPlan, body: &[u8], at: usize) -> bool
+    requires { at + 1 < length body.now }
+    ensures { result ≡ over_room (plan_of plan.entry.memory.now) (word body.now at) }
 {
-    plan::is_over_room(plan, plan::set_number(body, at))
+    plan.is_over_room(plan::set_number(body, at))
 }
 
 // Whether the set that a body names, at a place of it, is held.
-pub fn is_held(plan: &[u8], body: &[u8], at: usize) -> bool
-    requires { (sound_of plan.now ≡ true) × (at + 1 < length body.now) }
-    ensures { result ≡ is_some (held (plan_of plan.now) (word body.now at)) }
+pub fn is_held(plan: SoundPlan, body: &[u8], at: usize) -> bool
+    requires { at + 1 < length body.now }
+    ensures { result ≡ is_some (held (plan_of plan.entry.memory.now) (word body.now at)) }
 {
-    plan::is_held(plan, plan::set_number(body, at))
+    plan.is_held(plan::set_number(body, at))
 }
 
 // Whether a filter and a set's content fit.
@@ -55,8 +55,8 @@ pub fn fits(code: &[u8], content: &[u8]) -> bool
     ensures { result ≡ fit (filter_of code.now) (actions_of content.now) }
 {
     actions::fits_content(
-        buffer::wide(code[PREFIX_AT]),
-        buffer::wide(code[LENGTH_AT]),
+        usize::from(code[PREFIX_AT]),
+        usize::from(code[LENGTH_AT]),
         content,
     )
 }

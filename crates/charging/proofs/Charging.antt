@@ -1,25 +1,24 @@
 -- Which answer and which ledger each way through charging a call record gives.
-use Prim.Native.Nat.{ℕ, ◌-◌, ◌*◌, ◌≤◌, ◌<◌}
+use Prim.Native.Nat.{ℕ, ◌*◌, ◌≤◌, ◌<◌}
 use mathlib.Core.Path.{◌≡◌, refl, ap, sym, subst, ◌∙◌}
 use mathlib.Core.Logic.{◌≢◌}
-use mathlib.Core.Bool.{Bool, true, false, ◌&&◌}
-use mathlib.Core.List.{List, [], ◌∷◌}
+use mathlib.Core.Bool.{Bool, true, false}
+use mathlib.Core.List.{List}
 use mathlib.Core.Option.{Option, none, some}
-use native.Mathlib.Nat.{sub-zero}
 use native.Mathlib.Omega.{arith}
 use lib.ListN.{length, take, length-take}
 use lib.Seq.{take_all, length-take-le}
 use borrow.Author.Tests.{le-ltb}
 use Rattle.meaning.specs.Sizes.{DISTRICT-AT, BILLED-AT, CALL-BYTES, DIGIT-ROOM}
-use Rattle.meaning.specs.Basics.{all_of, word, quad}
+use Rattle.meaning.specs.Basics.{word, quad}
 use Rattle.std.specs.Prelude.{if◌then◌else◌}
 use Rattle.meaning.specs.Refusals.{CUT, PLAN, ROOM, RANGE, NO-PRICE, LEDGER-FULL}
 use Rattle.meaning.specs.Plan.{Plan}
 use Rattle.meaning.specs.Prices.{PriceRow}
-use Rattle.meaning.specs.Ledger.{UNIT-LIMIT, UNITS, Ledger, ledger_in_range, is_full, Entry, entered}
+use Rattle.meaning.specs.Ledger.{UNITS, Ledger, ledger_in_range, is_full, Entry, entered}
 use Rattle.meaning.specs.Answer.{Answer, refused, answer_of}
 use Rattle.meaning.specs.Answers.{answered_as}
-use Rattle.meaning.specs.Charges.{CallRecord, call_record_of, call_in_range, priced_by, priced_on, due_on, due_of, entry_with, number_in, due_by, entry_of, taking_refusal, charged, ledger_after}
+use Rattle.meaning.specs.Charges.{CallRecord, call_record_of, call_in_range, priced_by, priced_on, due_on, due_of, number_in, due_by, entry_of, taking_refusal, charged, ledger_after}
 use Rattle.meaning.specs.declared.Answered.{Answered}
 use Rattle.meaning.proofs.Tests.{true_is}
 use Rattle.plan.specs.Layout.{plan_of}
@@ -30,10 +29,11 @@ use Rattle.prices.proofs.ImageLaws.{prices_some, prices_none}
 use Rattle.ledger.specs.Entries.{entry_for}
 use Rattle.number.specs.Promises.{HoldsAnswer, GivesAnswer}
 use Rattle.number.proofs.Answering.{gives_refused, holds_count, holds_refused}
-use Rattle.charging.specs.Dues.{due_given, GivesDue, entry_due, due_refusal, due_ledger, Charges, ChargesIf}
-use Rattle.charging.specs.declared.Due.{Due}
-use Rattle.charging.specs.declared.Due.TheVariants.{Units, NoPrice}
-use Rattle.charging.specs.Promises.{lent_in_range, Chargeable, HoldsTaken, TakesKnown, Takes}
+use Rattle.charging.specs.Dues.{GivesDue, entry_due, due_refusal, due_ledger, Charges, ChargesIf}
+use Rattle.std.specs.Prelude.{Option as Optional, Some, None}
+use Rattle.plan.specs.declared.SoundPlan.{SoundPlan}
+use Rattle.prices.specs.declared.PriceList.{PriceList}
+use Rattle.charging.specs.Promises.{Chargeable, HoldsTaken, TakesKnown, Takes}
 use Rattle.charging.proofs.Taking.{refused_by, accepted_by, answer_itself, taking_cut, taking_unsound, taking_no_room, taking_no_list, taking_bad_call, taking_bad_ledger, taking_own, taking_no_price, taking_full, taking_accepted}
 
 -- A RECORD ON THE LEDGER, OR NOT
@@ -46,10 +46,10 @@ module _ (c : CallRecord) (due : ℕ) (l : Ledger) where
   enters f q = record { refusal_is = rw f; ledger_is = rw f q }
 
 -- by what was given as due
-pub charges_none : {o : Option ℕ} {d : Due} (c : CallRecord) (l : Ledger) → GivesDue o d → d ≡ NoPrice → Charges o c l l NO-PRICE
+pub charges_none : {o : Option ℕ} {d : Optional ℕ} (c : CallRecord) (l : Ledger) → GivesDue o d → d ≡ None → Charges o c l l NO-PRICE
 charges_none c l g e = rw (← g.is, e) (record { refusal_is = refl; ledger_is = refl })
 
-pub charges_some : {o : Option ℕ} {d : Due} {c : CallRecord} {l after : Ledger} {r : ℕ} (due : ℕ) → GivesDue o d → d ≡ Units due → Charges (some due) c l after r → Charges o c l after r
+pub charges_some : {o : Option ℕ} {d : Optional ℕ} {c : CallRecord} {l after : Ledger} {r : ℕ} (due : ℕ) → GivesDue o d → d ≡ Some due → Charges (some due) c l after r → Charges o c l after r
 charges_some due g e x = rw (← g.is, e) x
 
 -- where the number is a call record's, or not
@@ -66,22 +66,6 @@ pub entry_is : (body : List ℕ) {district billed : ℕ} (due : ℕ) → distric
 unfolding call_record_of
 entry_is body due e f = rw (e, f)
 
--- THE RANGE OF WHAT IS LENT
-
-module _ (prices : List ℕ) (l : Ledger) (body : List ℕ) where
-  pub call_out : call_in_range body ≡ false → false ≡ lent_in_range prices l body
-  call_out e = rw e
-
-  pub ledger_out : call_in_range body ≡ true → ledger_in_range l ≡ false → false ≡ lent_in_range prices l body
-  ledger_out e f = rw (e, f)
-
-  pub list_decides : call_in_range body ≡ true → ledger_in_range l ≡ true → prices_in_range prices ≡ lent_in_range prices l body
-  list_decides e f = rw (e, f) (go (prices_in_range prices))
-    where
-      go : (b : Bool) → b ≡ (b && true)
-      go true = refl
-      go false = refl
-
 -- the digits that an answer counts stand in the buffer
 pub holds_inside : {a : Answer} {after : List ℕ} {r : Answered} → HoldsAnswer a after r → r.digits ≤ length after
 holds_inside {a} {after} h =
@@ -91,7 +75,7 @@ holds_inside {a} {after} h =
 
 -- OVER WHAT IS KNOWN
 
-module _ {m prices body : List ℕ} {l : Ledger} (k : Chargeable m prices l body) where
+module _ (m prices : List ℕ) {body : List ℕ} {l : Ledger} (k : Chargeable l body) where
   abbrev p : Plan
   p = plan_of m
 
@@ -130,13 +114,13 @@ module _ {m prices body : List ℕ} {l : Ledger} (k : Chargeable m prices l body
       given_is = refusal_is ∙ given
 
       abbrev due : Option ℕ
-      due = due_on rs (call_record_of body).seconds (priced_by r.outcome (number_in body).digits (take (r.digits - 0) digits))
+      due = due_on rs (call_record_of body).seconds (priced_by r.outcome (number_in body).digits (take r.digits digits))
 
       -- the digits that the call is priced on are the definition's
       due_is : due_by p rs (take CALL-BYTES body) ≡ due
       unfolding due_of priced_on
       due_is =
-          let out : take (r.digits - 0) digits ≡ (answer_of p (number_in body)).digits = rw (sub-zero, holds_count h) h.digits in
+          let out : take r.digits digits ≡ (answer_of p (number_in body)).digits = rw (holds_count h) h.digits in
           let outcome : r.outcome ≡ (answer_of p (number_in body)).outcome = ap (λ (x : Answered). x.outcome) h.result in
           ap (due_by p rs) all_body ∙ sym (rw (out, outcome))
 
@@ -196,9 +180,13 @@ module _ (m prices : List ℕ) (l : Ledger) (body out : List ℕ) where
   module _ (whole : CALL-BYTES ≤ length body) where
     pub takes_unsound : {r : Answered} → sound_of m ≡ false → r ≡ answered_as (refused PLAN) → Takes m prices l body out l out r
     takes_unsound s q =
-        refuses PLAN (ap (λ (o : Option Plan). taking_refusal o (prices_of prices) l (length out) body) (state_none m s) ∙ taking_unsound (prices_of prices) l (length out) body whole) (λ z. omega (arith, z)) q
+        refuses PLAN (ap (λ (o : Option Plan). taking_refusal o (prices_of prices) l (length out) body) (state_none m s) ∙ taking_unsound (prices_of prices) l (length out) body whole) (λ z. omega (arith, z))
+        q
 
-    module _ (s : sound_of m ≡ true) where
+    module _ (p : SoundPlan) (same : p.memory.now ≡ m) where
+      s : sound_of m ≡ true
+      s = rw (← same) p.sound
+
       over : (k : ℕ) → taking_refusal (some (plan_of m)) (prices_of prices) l (length out) body ≡ k → taking_refusal (state_of m) (prices_of prices) l (length out) body ≡ k
       over k e = ap (λ (o : Option Plan). taking_refusal o (prices_of prices) l (length out) body) (state_some m s) ∙ e
 
@@ -206,43 +194,49 @@ module _ (m prices : List ℕ) (l : Ledger) (body out : List ℕ) where
       takes_no_room h q = refuses ROOM (over ROOM (taking_no_room (prices_of prices) l (length out) body whole (plan_of m) h)) (λ z. omega (arith, z)) q
 
       module _ (room : DIGIT-ROOM ≤ length out) where
-        pub takes_range : {r : Answered} → lent_in_range prices l (take CALL-BYTES body) ≡ false → r ≡ answered_as (refused RANGE) → Takes m prices l body out l out r
-        takes_range n q = refuses RANGE (over RANGE (go (prices_in_range prices) (call_in_range (take CALL-BYTES body)) (ledger_in_range l) refl refl refl)) (λ z. omega (arith, z)) q
+        listed : prices_in_range prices ≡ true → taking_refusal (some (plan_of m)) (some (rows_in prices)) l (length out) body ≡ RANGE → taking_refusal (some (plan_of m)) (prices_of prices) l (length out) body ≡ RANGE
+        listed f e = ap (λ (o : Option (List PriceRow)). taking_refusal (some (plan_of m)) o l (length out) body) (prices_some prices f) ∙ e
+
+        unlisted : prices_in_range prices ≡ false → taking_refusal (some (plan_of m)) (prices_of prices) l (length out) body ≡ RANGE
+        unlisted f = ap (λ (o : Option (List PriceRow)). taking_refusal (some (plan_of m)) o l (length out) body) (prices_none prices f) ∙ taking_no_list (plan_of m) l (length out) body whole room
+
+        -- whatever the price list is
+        either_list : taking_refusal (some (plan_of m)) (some (rows_in prices)) l (length out) body ≡ RANGE → taking_refusal (some (plan_of m)) (prices_of prices) l (length out) body ≡ RANGE
+        either_list e = go (prices_in_range prices) refl
           where
-            listed : prices_in_range prices ≡ true → taking_refusal (some (plan_of m)) (some (rows_in prices)) l (length out) body ≡ RANGE → taking_refusal (some (plan_of m)) (prices_of prices) l (length out) body ≡ RANGE
-            listed f e = ap (λ (o : Option (List PriceRow)). taking_refusal (some (plan_of m)) o l (length out) body) (prices_some prices f) ∙ e
+            go : (b : Bool) → prices_in_range prices ≡ b → taking_refusal (some (plan_of m)) (prices_of prices) l (length out) body ≡ RANGE
+            go true f = listed f e
+            go false f = unlisted f
 
-            go : (a b c : Bool) → prices_in_range prices ≡ a → call_in_range (take CALL-BYTES body) ≡ b → ledger_in_range l ≡ c → taking_refusal (some (plan_of m)) (prices_of prices) l (length out) body ≡ RANGE
-            go false b c f g h = ap (λ (o : Option (List PriceRow)). taking_refusal (some (plan_of m)) o l (length out) body) (prices_none prices f) ∙ taking_no_list (plan_of m) l (length out) body whole room
-            go true false c f g h = listed f (taking_bad_call (plan_of m) l (length out) body whole room (rows_in prices) g)
-            go true true false f g h = listed f (taking_bad_ledger (plan_of m) l (length out) body whole room (rows_in prices) g h)
-            go true true true f g h = absurd (let e : ◌≡◌ {A = Bool} true false = rw (f, g, h) at n in let z : ◌≡◌ {A = ℕ} 0 1 = cc in omega arith)
+        pub takes_bad_call : {r : Answered} → call_in_range (take CALL-BYTES body) ≡ false → r ≡ answered_as (refused RANGE) → Takes m prices l body out l out r
+        takes_bad_call n q = refuses RANGE (over RANGE (either_list (taking_bad_call (plan_of m) l (length out) body whole room (rows_in prices) n))) (λ z. omega (arith, z)) q
 
-        module _ (n : lent_in_range prices l (take CALL-BYTES body) ≡ true) where
-          pub chargeable : Chargeable m prices l (take CALL-BYTES body)
-          chargeable = go (call_in_range (take CALL-BYTES body)) (ledger_in_range l) (prices_in_range prices) refl refl refl n
-            where
-              go : (a b c : Bool) → call_in_range (take CALL-BYTES body) ≡ a → ledger_in_range l ≡ b → prices_in_range prices ≡ c → all_of (a ∷ b ∷ c ∷ []) ≡ true → Chargeable m prices l (take CALL-BYTES body)
-              go true true true f g h e = record { sound = s; prices_in = h; ledger_in = g; whole = length-take-le CALL-BYTES body whole; range = f }
-              go false b c f g h e = absurd (let z : ◌≡◌ {A = ℕ} 0 1 = cc in omega arith)
-              go true false c f g h e = absurd (let z : ◌≡◌ {A = ℕ} 0 1 = cc in omega arith)
-              go true true false f g h e = absurd (let z : ◌≡◌ {A = ℕ} 0 1 = cc in omega arith)
+        module _ (range : call_in_range (take CALL-BYTES body) ≡ true) where
+          pub takes_bad_ledger : {r : Answered} → ledger_in_range l ≡ false → r ≡ answered_as (refused RANGE) → Takes m prices l body out l out r
+          takes_bad_ledger n q = refuses RANGE (over RANGE (either_list (taking_bad_ledger (plan_of m) l (length out) body whole room (rows_in prices) range n))) (λ z. omega (arith, z)) q
+
+          pub takes_no_list : {r : Answered} → prices_in_range prices ≡ false → r ≡ answered_as (refused RANGE) → Takes m prices l body out l out r
+          takes_no_list n q = refuses RANGE (over RANGE (unlisted n)) (λ z. omega (arith, z)) q
+
+          pub chargeable : ledger_in_range l ≡ true → Chargeable l (take CALL-BYTES body)
+          chargeable n = record { ledger_in = n; whole = length-take-le CALL-BYTES body whole; range = range }
 
           -- neither the size of a buffer that has room nor bytes behind the body are looked at
-          same : (p : Plan) (rs : List PriceRow)
+          same_refusal : (p : Plan) (rs : List PriceRow)
               → taking_refusal (some p) (some rs) l DIGIT-ROOM (take CALL-BYTES body) ≡ taking_refusal (some p) (some rs) l (length out) body
           unfolding taking_refusal
-          same p rs =
+          same_refusal p rs =
               let twice : take CALL-BYTES (take CALL-BYTES body) ≡ take CALL-BYTES body = take_all CALL-BYTES (take CALL-BYTES body) (omega (arith, length-take-le CALL-BYTES body whole)) in
               rw (length-take-le CALL-BYTES body whole, twice, le-ltb (length body) CALL-BYTES whole, le-ltb (length out) DIGIT-ROOM room)
 
-          pub takes_known : {after : Ledger} {left : List ℕ} {r : Answered} → TakesKnown m prices l (take CALL-BYTES body) out after left r → Takes m prices l body out after left r
+          pub takes_known : {after : Ledger} {left : List ℕ} {r : Answered} (ps : PriceList) → ps.memory.now ≡ prices → TakesKnown p.memory.now ps.memory.now l (take CALL-BYTES body) out after left r
+              → Takes m prices l body out after left r
           unfolding charged ledger_after
-          takes_known {after} {left} {r} k =
-              let f : prices_in_range prices ≡ true = chargeable.prices_in in
+          takes_known {after} {left} {r} ps list k =
+              let f : prices_in_range prices ≡ true = rw (← list) ps.in_range in
               let twice : take CALL-BYTES (take CALL-BYTES body) ≡ take CALL-BYTES body = take_all CALL-BYTES (take CALL-BYTES body) (omega (arith, length-take-le CALL-BYTES body whole)) in
-              let a : charged (some (plan_of m)) (some (rows_in prices)) l DIGIT-ROOM (take CALL-BYTES body) ≡ charged (state_of m) (prices_of prices) l (length out) body =
-              rw (same (plan_of m) (rows_in prices), twice, state_some m s, prices_some prices f) in
-              let b : ledger_after (some (plan_of m)) (some (rows_in prices)) l DIGIT-ROOM (take CALL-BYTES body) ≡ ledger_after (state_of m) (prices_of prices) l (length out) body =
-              rw (same (plan_of m) (rows_in prices), twice, state_some m s, prices_some prices f) in
+              let a : charged (some (plan_of p.memory.now)) (some (rows_in ps.memory.now)) l DIGIT-ROOM (take CALL-BYTES body) ≡ charged (state_of m) (prices_of prices) l (length out) body =
+              rw (same, list, same_refusal (plan_of m) (rows_in prices), twice, state_some m s, prices_some prices f) in
+              let b : ledger_after (some (plan_of p.memory.now)) (some (rows_in ps.memory.now)) l DIGIT-ROOM (take CALL-BYTES body) ≡ ledger_after (state_of m) (prices_of prices) l (length out) body =
+              rw (same, list, same_refusal (plan_of m) (rows_in prices), twice, state_some m s, prices_some prices f) in
               record { answer = subst (λ (x : Answer). GivesAnswer x out left r) a k.answer; ledger = k.ledger ∙ b }

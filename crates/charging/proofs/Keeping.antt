@@ -1,6 +1,6 @@
 -- What the checks of an accepted call record said, and what every record leaves in range.
 use Prim.Native.Nat.{ℕ, zero, suc, ◌*◌, ◌≤◌}
-use mathlib.Core.Path.{◌≡◌, refl, ap, sym, ◌∙◌}
+use mathlib.Core.Path.{◌≡◌, refl, ◌∙◌}
 use mathlib.Core.Bool.{Bool, true, false, not, ◌&&◌}
 use mathlib.Core.List.{List, [], ◌∷◌}
 use mathlib.Core.Option.{Option, none, some}
@@ -8,16 +8,15 @@ use native.Mathlib.Omega.{arith}
 use lib.ListN.{length, take}
 use lib.Dec.{T, ltb}
 use borrow.Author.Tests.{eqb-true, ne_eqb, not-true}
-use Rattle.meaning.specs.Sizes.{CALL-BYTES, DIGIT-ROOM, LEDGER-NUMBERS, DISTRICTS}
+use Rattle.meaning.specs.Sizes.{CALL-BYTES, DIGIT-ROOM, LEDGER-NUMBERS}
 use Rattle.meaning.specs.Basics.{is_zero, is_some, all}
 use Rattle.std.specs.Prelude.{if◌then◌else◌}
-use Rattle.meaning.specs.Refusals.{Line, first_of, CUT, ROOM, RANGE, NO-PRICE, LEDGER-FULL}
+use Rattle.meaning.specs.Refusals.{Line, first_of, ROOM, RANGE, NO-PRICE, LEDGER-FULL}
 use Rattle.meaning.specs.Plan.{Plan}
 use Rattle.meaning.specs.Prices.{PriceRow, PRICE-LIMIT, price_for, prices_pass, row_passes, list_tests}
-use Rattle.meaning.specs.Priced.{IsPrice}
-use Rattle.meaning.specs.Ledger.{UNIT-LIMIT, Ledger, ledger_in_range, is_full, Entry, entered}
+use Rattle.meaning.specs.Ledger.{UNIT-LIMIT, Ledger, ledger_in_range, is_full, entered}
 use Rattle.meaning.specs.Answer.{Answer, answer_of}
-use Rattle.meaning.specs.Charges.{SECONDS-LIMIT, call_record_of, call_in_range, priced_on, times_price, due_on, due_of, number_in, due_by, entry_of, charge_lines, taking_refusal, entered_by, ledger_after}
+use Rattle.meaning.specs.Charges.{call_record_of, call_in_range, priced_on, times_price, due_on, due_of, number_in, due_by, entry_of, charge_lines, taking_refusal, ledger_after}
 use Rattle.meaning.proofs.Tests.{true_is, is_true, and_left, and_right, not_not, passed, all_at, all_mem}
 use Rattle.meaning.proofs.Prices.{price_is}
 use Rattle.meaning.proofs.Ledgers.{entered_in_range, entered_length}

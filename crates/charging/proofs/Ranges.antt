@@ -1,17 +1,15 @@
 -- What each test of a call record's range says of all of it.
-use Prim.Native.Nat.{ℕ, ◌≤◌, ◌<◌, ◌*◌}
+use Prim.Native.Nat.{ℕ, ◌≤◌, ◌<◌}
 use mathlib.Core.Path.{◌≡◌, refl, sym}
 use mathlib.Core.Bool.{Bool, true, false, ◌&&◌}
-use mathlib.Core.List.{List, [], ◌∷◌}
+use mathlib.Core.List.{List}
 use native.Mathlib.Omega.{arith}
-use lib.ListN.{length, take}
-use lib.Seq.{length-take-le}
+use lib.ListN.{length}
 use lib.Dec.{T, ltb, leb}
 use borrow.Author.Tests.{lt-ltb, le-ltb, le-leb, lt-leb, leb-true, ltb-true}
 use Rattle.meaning.specs.Sizes.{NUMBER-BYTES, DISTRICT-AT, SECONDS-AT, BILLED-AT, CALL-HEAD, CALL-BYTES, DISTRICTS}
 use Rattle.meaning.specs.Basics.{word, quad, part}
 use Rattle.meaning.specs.Settings.{number_in_range}
-use Rattle.meaning.specs.Ledger.{UNIT-LIMIT}
 use Rattle.meaning.specs.Charges.{call_record_of, SECONDS-LIMIT, BILLED-LIMIT, call_ranges, call_in_range}
 use Rattle.meaning.proofs.Tests.{true_is, is_true, all_at, part_length}
 use Rattle.buffer.proofs.Passing.{and-true}

@@ -1,24 +1,26 @@
 -- What the functions on the way to a call record's entry give.
-use Rattle.std.specs.Prelude.{ℕ, ◌*◌, ◌≤◌, ◌≡◌, Bool, true, false}
+use Rattle.std.specs.Prelude.{ℕ, ◌*◌, ◌≤◌, ◌≡◌, Bool, true, false, Option as Optional, Some, None, Result, Ok, Err}
 use Rattle.std.proofs.Math.Option.{Option, none, some}
 use Rattle.std.specs.Prelude.{if◌then◌else◌}
 use Rattle.meaning.specs.Refusals.{NO-PRICE, LEDGER-FULL}
+use Rattle.meaning.specs.Answers.{number_of_refusal}
+use Rattle.meaning.specs.declared.Refusal.{Refusal}
+use Rattle.meaning.specs.declared.Totals.{Totals}
 use Rattle.meaning.specs.Ledger.{UNIT-LIMIT, UNITS, Ledger, is_full, Entry, entered}
 use Rattle.meaning.specs.Charges.{CallRecord}
 use Rattle.ledger.specs.Entries.{entry_for}
-use Rattle.charging.specs.declared.Due.{Due}
-use Rattle.charging.specs.declared.Due.TheVariants.{Units, NoPrice}
 
-abbrev pub due_given : Due → Option ℕ
-due_given (Units n) = some n
-due_given NoPrice = none
+abbrev pub due_given : Optional ℕ → Option ℕ
+due_given (Some n) = some n
+due_given None = none
 
-abbrev pub units_of : Due → ℕ
-units_of (Units n) = n
-units_of NoPrice = 0
+-- 0 where no row fits
+abbrev pub units_of : Optional ℕ → ℕ
+units_of (Some n) = n
+units_of None = 0
 
 -- what a call is due, within the most that one is
-pub record GivesDue (due : Option ℕ) (r : Due) : Type 0 where
+pub record GivesDue (due : Option ℕ) (r : Optional ℕ) : Type 0 where
   pub is : due_given r ≡ due
   pub small : units_of r ≤ UNIT-LIMIT
 
@@ -35,6 +37,16 @@ due_refusal (some due) l = if is_full l then LEDGER-FULL else 0
 abbrev pub due_ledger : CallRecord → Option ℕ → Ledger → Ledger
 due_ledger c none l = l
 due_ledger c (some due) l = if is_full l then l else entered (entry_due c due) l
+
+-- the refusal of a charge, or 0
+abbrev pub refusal_of_charge : Result Totals Refusal → ℕ
+refusal_of_charge (Ok _) = 0
+refusal_of_charge (Err r) = number_of_refusal r
+
+-- the whole's totals behind it: those before it where it is refused
+abbrev pub whole_behind : Totals → Result Totals Refusal → Totals
+whole_behind whole (Ok t) = t
+whole_behind whole (Err r) = whole
 
 pub record Charges (due : Option ℕ) (c : CallRecord) (l after : Ledger) (refusal : ℕ) : Type 0 where
   pub refusal_is : refusal ≡ due_refusal due l

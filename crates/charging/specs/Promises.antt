@@ -1,5 +1,5 @@
 -- What taking a call record promises, for anything lent.
-use Rattle.std.specs.Prelude.{ℕ, ◌≡◌, Bool, true, List, [], ◌∷◌, length, take}
+use Rattle.std.specs.Prelude.{ℕ, ◌≡◌, Bool, true, List, length, take}
 use Rattle.std.proofs.Math.Option.{some}
 use Rattle.meaning.specs.Sizes.{CALL-BYTES, DIGIT-ROOM}
 use Rattle.meaning.specs.Basics.{all_of}
@@ -11,20 +11,13 @@ use Rattle.meaning.specs.declared.Answered.{Answered}
 use Rattle.meaning.specs.declared.Taken.{Taken}
 use Rattle.meaning.specs.declared.Totals.{Totals}
 use Rattle.plan.specs.Layout.{plan_of}
-use Rattle.plan.specs.State.{sound_of, state_of}
-use Rattle.prices.specs.Layout.{rows_in, prices_in_range, prices_of}
+use Rattle.plan.specs.State.{state_of}
+use Rattle.prices.specs.Layout.{rows_in, prices_of}
 use Rattle.number.specs.Promises.{HoldsAnswer, GivesAnswer}
 
 -- the fields before a call record's number: the first three tests of its range
 abbrev pub head_in_range : List ℕ → Bool
 head_in_range b = all_of (take 3 (call_ranges b))
-
--- the tests of RANGE, in the order in which they are made
-abbrev pub lent_tests : List ℕ → Ledger → List ℕ → List Bool
-lent_tests prices l body = call_in_range body ∷ ledger_in_range l ∷ prices_in_range prices ∷ []
-
-abbrev pub lent_in_range : List ℕ → Ledger → List ℕ → Bool
-lent_in_range prices l body = all_of (lent_tests prices l body)
 
 abbrev pub taken_as : Answered → Totals → Taken
 taken_as answer whole = record { answer = answer; whole = whole }
@@ -33,17 +26,8 @@ taken_as answer whole = record { answer = answer; whole = whole }
 abbrev pub refused_as : ℕ → Totals → Taken
 refused_as number whole = taken_as (answered_as (refused number)) whole
 
--- a price list, a ledger and a call record that are in range
-pub record Priceable (prices : List ℕ) (l : Ledger) (body : List ℕ) : Type 0 where
-  pub prices_in : prices_in_range prices ≡ true
-  pub ledger_in : ledger_in_range l ≡ true
-  pub whole : length body ≡ CALL-BYTES
-  pub range : call_in_range body ≡ true
-
--- a sound plan, a price list, a ledger and a call record that are in range
-pub record Chargeable (m prices : List ℕ) (l : Ledger) (body : List ℕ) : Type 0 where
-  pub sound : sound_of m ≡ true
-  pub prices_in : prices_in_range prices ≡ true
+-- a ledger and a call record that are in range
+pub record Chargeable (l : Ledger) (body : List ℕ) : Type 0 where
   pub ledger_in : ledger_in_range l ≡ true
   pub whole : length body ≡ CALL-BYTES
   pub range : call_in_range body ≡ true

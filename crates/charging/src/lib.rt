@@ -7,19 +7,21 @@ ghost use Rattle.meaning.specs.Sizes.{CALL-BYTES};
 ghost use Rattle.meaning.specs.Prices.{price_for};
 ghost use Rattle.meaning.specs.Ledger.{UNIT-LIMIT, ledger_of, ledger_in_range};
 ghost use Rattle.meaning.specs.Charges.{SECONDS-LIMIT, call_record_of, call_in_range, priced_by, times_price, due_on, number_in};
-ghost use Rattle.prices.specs.Layout.{rows_in, prices_in_range};
+ghost use Rattle.meaning.specs.Answers.{number_of_refusal};
+ghost use Rattle.prices.specs.Layout.{rows_in};
 ghost use Rattle.number.specs.Answering.{ANSWER-BYTES};
-ghost use Rattle.charging.specs.Dues.{GivesDue, Charges, ChargesIf};
-ghost use Rattle.charging.specs.Promises.{head_in_range, lent_in_range, refused_as, Priceable, Chargeable, HoldsTaken, TakesKnown, Takes};
+ghost use Rattle.charging.specs.Dues.{GivesDue, whole_behind, refusal_of_charge, Charges, ChargesIf};
+ghost use Rattle.charging.specs.Promises.{head_in_range, refused_as, Chargeable, HoldsTaken, TakesKnown, Takes};
 
-use meaning::refusals::{ACCEPTED, CUT, LEDGER_FULL, NO_PRICE, PLAN, RANGE, ROOM};
+use meaning::refusals::ACCEPTED;
 use meaning::sizes::{
     BILLED_AT, CALL_BYTES, CALL_HEAD, DIGIT_ROOM, DISTRICT_AT, DISTRICTS, LEDGER_NUMBERS,
     PRICES_BYTES, SECONDS_AT,
 };
-use meaning::{Answered, Taken, Totals};
-use number::{ANSWER_BYTES, FORMATTED, RESPONDED};
-use prices::Priced;
+use meaning::{Refusal, Taken, Totals};
+use number::{ANSWER_BYTES, Outcome};
+use plan::SoundPlan;
+use prices::PriceList;
 
 // The longest call, and the most that one is billed, in thousandths of a cent.
 const SECONDS_LIMIT: usize = 86400;
@@ -56,55 +58,27 @@ fn call_in_range(body: &[u8]) -> bool
     ranges::number_in_range(&body[CALL_HEAD..CALL_BYTES])
 }
 
-// Whether a call record, a lent price list and a lent ledger are in range.
-fn lent_in_range(
-    prices: &[u8],
-    districts: &[i64; LEDGER_NUMBERS],
-    whole: Totals,
-    body: &[u8],
-) -> bool
-    requires { length body.now ≡ CALL-BYTES }
-    ensures { result ≡ lent_in_range prices.now (ledger_of districts.now whole) body.now }
-{
-    if !call_in_range(body) {
-        return false;
-    }
-    if !ledger::in_range(districts, whole) {
-        return false;
-    }
-    prices::in_range(prices)
-}
-
 // WHAT A CALL IS DUE
 
-// In units; or no row of the price list fits.
-#[derive(Clone, Copy)]
-pub enum Due {
-    Units(usize),
-    NoPrice,
-}
-
-// What a call of so many seconds to some digits is due.
-fn due_on(prices: &[u8], seconds: usize, digits: &[u8]) -> Due
-    requires { (prices_in_range prices.now ≡ true) × (seconds ≤ SECONDS-LIMIT) }
-    ensures { GivesDue (times_price seconds (price_for (rows_in prices.now) digits.now)) result }
+// What a call of so many seconds to some digits is due, in units; none where no row of the price list fits.
+fn due_on(prices: PriceList, seconds: usize, digits: &[u8]) -> Option<usize>
+    requires { seconds ≤ SECONDS-LIMIT }
+    ensures { GivesDue (times_price seconds (price_for (rows_in prices.entry.memory.now) digits.now)) result }
 {
-    match prices::price_for(prices, digits) {
-        Priced::PerMinute(price) => Due::Units(seconds * price),
-        Priced::NoPrice => Due::NoPrice,
-    }
+    let price = prices.price_for(digits)?;
+    Some(seconds * price)
 }
 
 // What a call is due by its outcome: nothing for a response, else by its outgoing or its incoming digits.
-fn due_of(prices: &[u8], body: &[u8], outcome: u8, outgoing: &[u8]) -> Due
-    requires { (prices_in_range prices.now ≡ true) × (length body.now ≡ CALL-BYTES) × (call_in_range body.now ≡ true) }
-    ensures { GivesDue (due_on (rows_in prices.now) (call_record_of body.now).seconds (priced_by outcome (number_in body.now).digits outgoing.now)) result }
+fn due_of(prices: PriceList, body: &[u8], outcome: u8, outgoing: &[u8]) -> Option<usize>
+    requires { (length body.now ≡ CALL-BYTES) × (call_in_range body.now ≡ true) }
+    ensures { GivesDue (due_on (rows_in prices.entry.memory.now) (call_record_of body.now).seconds (priced_by outcome (number_in body.now).digits outgoing.now)) result }
 {
-    if outcome == RESPONDED {
-        return Due::Units(0);
+    if outcome == u8::from(Outcome::Responded) {
+        return Some(0);
     }
     let seconds = buffer::quad(body, SECONDS_AT);
-    if outcome == FORMATTED {
+    if outcome == u8::from(Outcome::Formatted) {
         return due_on(prices, seconds, outgoing);
     }
     due_on(
@@ -116,107 +90,87 @@ fn due_of(prices: &[u8], body: &[u8], outcome: u8, outgoing: &[u8]) -> Due
 
 // THE ENTRY
 
-// How charging ended: a refusal, or 0, and the whole's totals behind it.
-#[derive(Clone, Copy)]
-pub struct Charged {
-    pub refusal: u8,
-    pub whole: Totals,
-}
-
-// The record on the ledger with what it is due, or LEDGER FULL.
-fn enter(districts: &mut [i64; LEDGER_NUMBERS], whole: Totals, body: &[u8], due: usize) -> Charged
+// The record on the ledger with what it is due, or LEDGER FULL: the whole's totals behind it.
+fn enter(
+    districts: &mut [i64; LEDGER_NUMBERS],
+    whole: Totals,
+    body: &[u8],
+    due: usize,
+) -> Result<Totals, Refusal>
     requires { (ledger_in_range (ledger_of districts.old whole) ≡ true) × (length body.now ≡ CALL-BYTES) × (call_in_range body.now ≡ true) × (due ≤ UNIT-LIMIT) }
-    ensures { Charges (some due) (call_record_of body.now) (ledger_of districts.old whole) (ledger_of districts.new result.whole) result.refusal }
+    ensures { Charges (some due) (call_record_of body.now) (ledger_of districts.old whole) (ledger_of districts.new (whole_behind whole result)) (refusal_of_charge result) }
 {
     if ledger::is_full(whole) {
-        return Charged {
-            refusal: LEDGER_FULL,
-            whole: whole,
-        };
+        return Err(Refusal::LedgerFull);
     }
     let district = buffer::word(body, DISTRICT_AT);
     let billed = buffer::quad(body, BILLED_AT) * UNITS;
-    Charged {
-        refusal: ACCEPTED,
-        whole: ledger::enter(districts, whole, district, due, billed),
-    }
+    Ok(ledger::enter(districts, whole, district, due, billed))
 }
 
-// Charges a number that was answered, where it is a call record's: what it is due goes on the ledger, or it draws NO PRICE or LEDGER FULL.
+// Charges a number that was answered, where it is a call record's: what it is due goes on the ledger, or it draws NO PRICE or LEDGER FULL, and the whole's totals stay.
 pub fn charge(
     call: bool,
-    prices: &[u8],
+    prices: PriceList,
     districts: &mut [i64; LEDGER_NUMBERS],
     whole: Totals,
     body: &[u8],
     outcome: u8,
     outgoing: &[u8],
-) -> Charged
-    requires { call ≡ true → Priceable prices.now (ledger_of districts.old whole) body.now }
-    ensures { ChargesIf call (due_on (rows_in prices.now) (call_record_of body.now).seconds (priced_by outcome (number_in body.now).digits outgoing.now)) (call_record_of body.now) (ledger_of districts.old whole) (ledger_of districts.new result.whole) result.refusal }
+) -> Result<Totals, Refusal>
+    requires { call ≡ true → Chargeable (ledger_of districts.old whole) body.now }
+    ensures { ChargesIf call (due_on (rows_in prices.entry.memory.now) (call_record_of body.now).seconds (priced_by outcome (number_in body.now).digits outgoing.now)) (call_record_of body.now) (ledger_of districts.old whole) (ledger_of districts.new (whole_behind whole result)) (refusal_of_charge result) }
 {
     if !call {
-        return Charged {
-            refusal: ACCEPTED,
-            whole: whole,
-        };
+        return Ok(whole);
     }
     match due_of(prices, body, outcome, outgoing) {
-        Due::NoPrice => Charged {
-            refusal: NO_PRICE,
-            whole: whole,
-        },
-        Due::Units(due) => enter(districts, whole, body, due),
+        None => Err(Refusal::NoPrice),
+        Some(due) => enter(districts, whole, body, due),
     }
 }
 
 // A refusal: the whole's totals stay.
-fn refused(number: u8, whole: Totals) -> Taken
-    ensures { result ≡ refused_as number whole }
+fn refused(refusal: Refusal, whole: Totals) -> Taken
+    ensures { result ≡ refused_as (number_of_refusal refusal) whole }
 {
     Taken {
-        answer: number::refused(number),
-        whole: whole,
+        answer: number::refused(refusal),
+        whole,
     }
 }
 
-// A call record over a plan, a price list and a ledger that are known to be in order. The outgoing digits stand at the front of a buffer of which nothing else is
-// kept.
+// A call record over a ledger that is in range. The outgoing digits stand at the front of a buffer of which nothing else is kept.
 fn charge_held(
-    plan: &[u8],
-    prices: &[u8],
+    plan: SoundPlan,
+    prices: PriceList,
     districts: &mut [i64; LEDGER_NUMBERS],
     whole: Totals,
     body: &[u8],
     digits: &mut [u8],
 ) -> Taken
-    requires { Chargeable plan.now prices.now (ledger_of districts.old whole) body.now × (ANSWER-BYTES ≤ length digits.old) }
-    ensures { HoldsTaken plan.now prices.now (ledger_of districts.old whole) body.now (ledger_of districts.new result.whole) digits.new result.answer }
+    requires { Chargeable (ledger_of districts.old whole) body.now × (ANSWER-BYTES ≤ length digits.old) }
+    ensures { HoldsTaken plan.entry.memory.now prices.entry.memory.now (ledger_of districts.old whole) body.now (ledger_of districts.new result.whole) digits.new result.answer }
 {
-    let a = number::answer_held(plan, &body[CALL_HEAD..CALL_BYTES], digits);
-    if a.refusal != ACCEPTED {
-        return Taken {
-            answer: a,
-            whole: whole,
-        };
+    let answer = number::answer_held(plan, &body[CALL_HEAD..CALL_BYTES], digits);
+    if answer.refusal != ACCEPTED {
+        return Taken { answer, whole };
     }
-    let n = a.digits;
-    let c = charge(
+    let outgoing = &digits[..answer.digits];
+    match charge(
         true,
         prices,
         districts,
         whole,
         body,
-        a.outcome,
-        &digits[0..n],
-    );
-    let left = c.whole;
-    if c.refusal != ACCEPTED {
-        return refused(c.refusal, left);
-    }
-    Taken {
-        answer: a,
-        whole: left,
+        answer.outcome,
+        outgoing,
+    ) {
+        Ok(left) => Taken {
+            answer,
+            whole: left,
+        },
+        Err(refusal) => refused(refusal, whole),
     }
 }
 
@@ -224,15 +178,15 @@ fn charge_held(
 
 // The same with the outgoing digits at the front of a lent buffer; the bytes behind them stay.
 pub fn take_known(
-    plan: &[u8],
-    prices: &[u8],
+    plan: SoundPlan,
+    prices: PriceList,
     districts: &mut [i64; LEDGER_NUMBERS],
     whole: Totals,
     body: &[u8],
     out: &mut [u8],
 ) -> Taken
-    requires { Chargeable plan.now prices.now (ledger_of districts.old whole) body.now × (32 ≤ length out.old) }
-    ensures { TakesKnown plan.now prices.now (ledger_of districts.old whole) body.now out.old (ledger_of districts.new result.whole) out.new result.answer }
+    requires { Chargeable (ledger_of districts.old whole) body.now × (32 ≤ length out.old) }
+    ensures { TakesKnown plan.entry.memory.now prices.entry.memory.now (ledger_of districts.old whole) body.now out.old (ledger_of districts.new result.whole) out.new result.answer }
 {
     let mut digits = [0u8; ANSWER_BYTES];
     let t = charge_held(plan, prices, districts, whole, body, &mut digits);
@@ -242,41 +196,31 @@ pub fn take_known(
 }
 
 // Takes a call record, for any plan bytes, any price list, any ledger, any body and any buffer.
-pub fn take_call<'a>(
-    plan: &'a [u8],
-    prices: &'a [u8; PRICES_BYTES],
+pub fn take_call(
+    plan: &[u8],
+    prices: &[u8; PRICES_BYTES],
     districts: &mut [i64; LEDGER_NUMBERS],
     whole: Totals,
-    body: &'a [u8],
+    body: &[u8],
     out: &mut [u8],
 ) -> Taken
     ensures { Takes plan.now prices.now (ledger_of districts.old whole) body.now out.old (ledger_of districts.new result.whole) out.new result.answer }
 {
     if body.len() < CALL_BYTES {
-        return refused(CUT, whole);
+        return refused(Refusal::Cut, whole);
     }
-    if !examiner::sound(plan) {
-        return refused(PLAN, whole);
-    }
+    let Ok(plan) = examiner::examine(plan) else {
+        return refused(Refusal::Plan, whole);
+    };
     if out.len() < DIGIT_ROOM {
-        return refused(ROOM, whole);
+        return refused(Refusal::Room, whole);
     }
-    let call = &body[0..CALL_BYTES];
-    if !lent_in_range(prices, districts, whole, call) {
-        return refused(RANGE, whole);
+    let call = &body[..CALL_BYTES];
+    if !call_in_range(call) || !ledger::in_range(districts, whole) {
+        return refused(Refusal::Range, whole);
     }
+    let Ok(prices) = prices::examine(prices) else {
+        return refused(Refusal::Range, whole);
+    };
     take_known(plan, prices, districts, whole, call, out)
-}
-
-// The two parts of what it answers.
-pub fn answer_of(t: Taken) -> Answered
-    ensures { result ≡ t.answer }
-{
-    t.answer
-}
-
-pub fn whole_of(t: Taken) -> Totals
-    ensures { result ≡ t.whole }
-{
-    t.whole
 }

@@ -3,7 +3,7 @@ use Prim.Native.Nat.{ℕ, zero, suc, ◌*◌}
 use mathlib.Core.Path.{◌≡◌, refl, ap, sym, ◌∙◌}
 use mathlib.Core.Bool.{Bool, true, false}
 use mathlib.Core.List.{List, [], ◌∷◌, map}
-use mathlib.Core.Option.{Option, some}
+use mathlib.Core.Option.{Option, none, some}
 use native.Mathlib.Omega.{arith}
 use lib.ListN.{length, take, get_elem?, length-map}
 use lib.Dec.{ltb}
@@ -19,13 +19,16 @@ use Rattle.meaning.specs.Answer.{Answer, answer, answer_of}
 use Rattle.meaning.specs.View.{Viewed, viewed, view}
 use Rattle.meaning.specs.Reads.{Count, listed, listing, listed_or, rule_at_place}
 use Rattle.meaning.specs.Compare.{differences, difference_bytes, Comparison, count_in, uncompared, comparison, SideBySide}
-use Rattle.meaning.specs.Answers.{answered_as, rule_listed}
+use Rattle.meaning.specs.Answers.{answered_as, rule_given, rule_wanted}
+use Rattle.meaning.specs.declared.Refusal.{Refusal}
+use Rattle.meaning.specs.declared.ListedRule.{ListedRule}
+use Rattle.std.specs.Prelude.{Result, Ok, Err}
 use Rattle.meaning.proofs.Compare.{side_by_side}
 use Rattle.plan.specs.Layout.{plan_of}
 use Rattle.plan.specs.State.{sound_of, state_of}
 use Rattle.plan.proofs.ImageLaws.{state_some, state_none}
 use Rattle.plan.proofs.ReadLaws.{sound_is}
-use Rattle.compare.specs.Alike.{SameSettings, NoDifference, ComparedAlike, ListsSameFilter, ListedAlike}
+use Rattle.compare.specs.Alike.{SameSettings, NoDifference, ComparedAlike, SameFilter, ListsSameFilter, ListedAlike}
 
 -- both memories are sound, and nothing differs between their plans
 record Equal (left right : List ℕ) : Type 0 where
@@ -88,16 +91,28 @@ compared_alike left right n s body out a b x y l r =
 
 -- LISTINGS
 
+-- as the reads of the document give them
+abbrev GivenSame : ℕ × Option ListedRule → ℕ × Option ListedRule → Type 0
+GivenSame (n, some x) (m, some y) = SameFilter x y
+GivenSame (n, some x) (m, none) = ⊥
+GivenSame (n, none) (m, some y) = ⊥
+GivenSame (n, none) (m, none) = n ≡ m
+
+given_same : (x y : Result ListedRule Refusal) → GivenSame (rule_given x) (rule_given y) → ListsSameFilter x y
+given_same (Ok x) (Ok y) s = s
+given_same (Ok x) (Err g) s = s
+given_same (Err f) (Ok y) s = s
+given_same (Err f) (Err g) s = s
+
 same_filters : (p q : Plan) (xs ys : List Rule) → map (viewed p) xs ≡ map (viewed q) ys → (k : ℕ)
-    → ListsSameFilter (rule_listed (listed_or (get_elem? (map listed xs) k))) (rule_listed (listed_or (get_elem? (map listed ys) k)))
-same_filters p q [] [] e k = record { refusal = refl; class = refl; digits = refl; prefix = refl; length = refl }
+    → GivenSame (rule_wanted (listed_or (get_elem? (map listed xs) k))) (rule_wanted (listed_or (get_elem? (map listed ys) k)))
+same_filters p q [] [] e k = refl
 same_filters p q [] (y ∷ ys) e k = absurd (let z : ◌≡◌ {A = ℕ} 0 1 = cc in omega arith)
 same_filters p q (x ∷ xs) [] e k = absurd (let z : ◌≡◌ {A = ℕ} 0 1 = cc in omega arith)
 same_filters p q (x ∷ xs) (y ∷ ys) e zero =
     let first : viewed p x ≡ viewed q y = cc in
     let f : filter_in x ≡ filter_in y = ap (λ (v : Viewed). v.filter) first in
     record {
-      refusal = refl;
       class = ap (λ (g : Filter). g.class) f;
       digits = ap (λ (g : Filter). length g.prefix) f;
       prefix = ap (λ (g : Filter). padded 16 g.prefix) f;
@@ -110,6 +125,6 @@ unfolding view listing
 listed_alike left right n k x y l r =
     let e = equal left right n in
     let same = same_filters (plan_of left) (plan_of right) (plan_of left).rules (plan_of right).rules (e.sides.empty.0 e.none_differ) k in
-    let x-is : x ≡ rule_listed (rule_at_place (some (plan_of left)) k) = l ∙ ap (λ (s : Option Plan). rule_listed (rule_at_place s k)) e.left_state in
-    let y-is : y ≡ rule_listed (rule_at_place (some (plan_of right)) k) = r ∙ ap (λ (s : Option Plan). rule_listed (rule_at_place s k)) e.right_state in
-    rw (x-is, y-is) same
+    let x-is : rule_given x ≡ rule_wanted (rule_at_place (some (plan_of left)) k) = l ∙ ap (λ (s : Option Plan). rule_wanted (rule_at_place s k)) e.left_state in
+    let y-is : rule_given y ≡ rule_wanted (rule_at_place (some (plan_of right)) k) = r ∙ ap (λ (s : Option Plan). rule_wanted (rule_at_place s k)) e.right_state in
+    given_same x y (rw (x-is, y-is) same)

@@ -1,8 +1,7 @@
 -- What a comparison gives, by what was counted and written; and, from its promise alone, when it is refused with ROOM.
 use Prim.Native.Nat.{ℕ, ◌*◌, ◌≤◌, ◌<◌}
 use mathlib.Core.Path.{◌≡◌, refl, ap, sym, subst, ◌∙◌}
-use mathlib.Core.Logic.{◌↔◌}
-use mathlib.Core.Bool.{Bool, true, false, not}
+use mathlib.Core.Bool.{Bool, true, false}
 use mathlib.Core.List.{List, [], ◌∷◌, map}
 use mathlib.Core.Option.{Option, none, some, some-injective}
 use native.Mathlib.Omega.{arith}
@@ -17,22 +16,22 @@ use Rattle.meaning.specs.Rules.{Rule}
 use Rattle.meaning.specs.Plan.{Plan, code_passes, codes_pass}
 use Rattle.meaning.specs.Reads.{Count}
 use Rattle.meaning.specs.Compare.{LEFT-ONLY, RIGHT-ONLY, IN-BOTH, NO-SET, merge, entry, differences, difference_bytes, Comparison, count_in, uncompared, comparison}
-use Rattle.meaning.specs.Answers.{compared_of}
+use Rattle.meaning.specs.Answers.{count_of}
 use Rattle.meaning.specs.declared.Refusal.TheVariants.{Plan as NoPlan, Room}
-use Rattle.meaning.specs.declared.Compared.{Compared}
-use Rattle.meaning.specs.declared.Compared.TheVariants.{Differences, Refused as NotCompared}
+use Rattle.meaning.specs.declared.Refusal.{Refusal}
+use Rattle.std.specs.Prelude.{Result, Ok, Err}
 use Rattle.meaning.proofs.Tests.{and_left, and_right}
-use Rattle.meaning.proofs.Telling.{told, passed}
 use Rattle.meaning.proofs.Soundness.{Sound, sound_parts}
 use Rattle.meaning.proofs.Merged.{by_order}
 use Rattle.buffer.specs.Slots.{flat, Wide}
 use Rattle.buffer.proofs.SlotLaws.{length_flat}
 use Rattle.plan.specs.Layout.{plan_of}
 use Rattle.plan.specs.State.{sound_of, state_of}
+use Rattle.plan.specs.declared.SoundPlan.{SoundPlan}
 use Rattle.plan.proofs.ImageLaws.{state_some, state_none, code_size}
 use Rattle.plan.proofs.ReadLaws.{sound_is}
 use Rattle.compare.specs.Steps.{entries_from, CountsEntries}
-use Rattle.compare.specs.Promises.{GivesComparison, ComparePromise, BothSound, HasRoom}
+use Rattle.compare.specs.Promises.{GivesComparison, ComparePromise}
 use Rattle.compare.specs.Alike.{EntriesWide, RoomExactly}
 use Rattle.compare.proofs.Entries.{entry_long}
 
@@ -76,7 +75,7 @@ module _ (p q : Plan) where
 
 -- OVER SOUND PLANS
 
-module _ (left right out : List ℕ) (pair : BothSound left right) where
+module _ (left right out : List ℕ) (left-sound : sound_of left ≡ true) (right-sound : sound_of right ≡ true) where
   abbrev p : Plan
   p = plan_of left
 
@@ -86,21 +85,21 @@ module _ (left right out : List ℕ) (pair : BothSound left right) where
   all_bytes : length (flat (entries_from p q 0 0)) ≡ DIFFERENCE-BYTES * length (differences p q)
   all_bytes =
       ap (λ (es : List (List ℕ)). length (flat es)) (all_entries p q)
-      ∙ bytes_needed_lem p q (sound_is left pair.left_sound).plan (sound_is right pair.right_sound).plan
+      ∙ bytes_needed_lem p q (sound_is left left-sound).plan (sound_is right right-sound).plan
 
   module _ (n : ℕ) (many : CountsEntries p q n) where
-    pub no_room : length out < DIFFERENCE-BYTES * n → GivesComparison (comparison (some p) (some q) (length out)) out out (NotCompared Room)
+    pub no_room : length out < DIFFERENCE-BYTES * n → GivesComparison (comparison (some p) (some q) (length out)) out out (Err Room)
     no_room h =
         let less : length out < DIFFERENCE-BYTES * length (differences p q) = omega (arith, h, all_counted p q n many) in
         let is : uncompared ROOM ≡ comparison (some p) (some q) (length out) = rw (lt-ltb (length out) (DIFFERENCE-BYTES * length (differences p q)) less) in
         record { result = ap count_in is; buffer = ap (λ (c : Comparison). written_over (flat c.entries) out) is }
 
     module _ (h : DIFFERENCE-BYTES * n ≤ length out) where
-      pub all_fit : HasRoom left right out
-      all_fit = record { pair = pair; room = omega (arith, h, all_bytes, all_counted p q n many) }
+      pub all_fit : length (flat (entries_from p q 0 0)) ≤ length out
+      all_fit = omega (arith, h, all_bytes, all_counted p q n many)
 
       pub all_written : (after : List ℕ) → after ≡ written_over (flat (entries_from p q 0 0)) out
-          → GivesComparison (comparison (some p) (some q) (length out)) out after (Differences n)
+          → GivesComparison (comparison (some p) (some q) (length out)) out after (Ok n)
       all_written after written =
           let enough : DIFFERENCE-BYTES * length (differences p q) ≤ length out = omega (arith, h, all_counted p q n many) in
           let is : record { refusal = 0; entries = map difference_bytes (differences p q) } ≡ comparison (some p) (some q) (length out) =
@@ -113,22 +112,22 @@ module _ (left right out : List ℕ) (pair : BothSound left right) where
 -- THE CALL
 
 module _ (left right out : List ℕ) where
-  plan_refused : comparison (state_of left) (state_of right) (length out) ≡ uncompared PLAN → ComparePromise left right out out (NotCompared NoPlan)
-  plan_refused is = record { result = ap count_in (sym is); buffer = ap (λ (c : Comparison). written_over (flat c.entries) out) (sym is) }
+  plan_refused : (f : Refusal) → f ≡ NoPlan → comparison (state_of left) (state_of right) (length out) ≡ uncompared PLAN → ComparePromise left right out out (Err f)
+  plan_refused f q is = rw q (record { result = ap count_in (sym is); buffer = ap (λ (c : Comparison). written_over (flat c.entries) out) (sym is) })
 
-  pub left_unsound : sound_of left ≡ false → ComparePromise left right out out (NotCompared NoPlan)
-  left_unsound e = plan_refused (rw (state_none left e))
+  pub left_unsound : (f : Refusal) → f ≡ NoPlan → sound_of left ≡ false → ComparePromise left right out out (Err f)
+  left_unsound f q e = plan_refused f q (rw (state_none left e))
 
-  pub right_unsound : sound_of left ≡ true → sound_of right ≡ false → ComparePromise left right out out (NotCompared NoPlan)
-  right_unsound e f = plan_refused (rw (state_some left e, state_none right f))
+  module _ (l : SoundPlan) (same : l.memory.now ≡ left) where
+    left-state : state_of left ≡ some (plan_of left)
+    left-state = rw (← same) (state_some l.memory.now l.sound)
 
-  -- both were asked about
-  pub examined : {a b : Bool} → a ≡ sound_of left → a ≡ true → b ≡ sound_of right → b ≡ true → BothSound left right
-  examined a-is a-passed b-is b-passed = record { left_sound = told a-is a-passed; right_sound = told b-is b-passed }
+    pub right_unsound : (f : Refusal) → f ≡ NoPlan → sound_of right ≡ false → ComparePromise left right out out (Err f)
+    right_unsound f q e = plan_refused f q (rw (left-state, state_none right e))
 
-  pub both_sound : BothSound left right → (after : List ℕ) (r : Compared)
-      → GivesComparison (comparison (some (plan_of left)) (some (plan_of right)) (length out)) out after r → ComparePromise left right out after r
-  both_sound pair after r g = rw (state_some left pair.left_sound, state_some right pair.right_sound) g
+    pub both_sound : (r : SoundPlan) → r.memory.now ≡ right → (after : List ℕ) (n : Result ℕ Refusal)
+        → GivesComparison (comparison (some (plan_of l.memory.now)) (some (plan_of r.memory.now)) (length out)) out after n → ComparePromise left right out after n
+    both_sound r other after n g = rw (← same, ← other, state_some l.memory.now l.sound, state_some r.memory.now r.sound) g
 
 -- FROM THE PROMISE
 
@@ -153,7 +152,7 @@ room_exactly left right out after r p q s t promise =
     bytes : length (flat (map difference_bytes (differences p q))) ≡ need
     bytes = bytes_needed_lem p q (state_sound left p s) (state_sound right q t)
 
-    given : (compared_of r).refusal ≡ (comparison (some p) (some q) (length out)).refusal
+    given : (count_of r).refusal ≡ (comparison (some p) (some q) (length out)).refusal
     given =
         ap (λ (c : Count). c.refusal) promise.result
         ∙ (ap (λ (x : Option Plan). (comparison x (state_of right) (length out)).refusal) s ∙ ap (λ (x : Option Plan). (comparison (some p) x (length out)).refusal) t)

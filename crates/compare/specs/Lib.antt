@@ -1,3 +1,4 @@
 pub mod Steps
+pub mod Standings
 pub mod Promises
 pub mod Alike

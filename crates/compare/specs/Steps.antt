@@ -79,7 +79,7 @@ pub record CountsEntries (p q : Plan) (n : ℕ) : Type 0 where
   pub is : n ≡ length (entries_from p q 0 0)
   pub few : n ≤ 8192
 
--- n bytes for the entry at two places, at the front of a buffer; the bytes behind stay
-pub record PutsEntry (k : ℕ) (x y : Rule) (out after : List ℕ) (n : ℕ) : Type 0 where
-  pub bytes : n ≡ length (flat (listed_by k x y))
-  pub buffer : after ≡ written_over (flat (listed_by k x y)) out
+-- n bytes for some entries, at the front of a buffer; the bytes behind stay
+pub record PutsEntries (entries : List (List ℕ)) (out after : List ℕ) (n : ℕ) : Type 0 where
+  pub bytes : n ≡ length (flat entries)
+  pub buffer : after ≡ written_over (flat entries) out

@@ -14,7 +14,8 @@ use Rattle.meaning.specs.Actions.{CCDEF, CA, value_of}
 use Rattle.meaning.specs.Conditioning.{width, Stretch, stretch_from, stretch_of}
 use Rattle.meaning.proofs.Tests.{all_below, at_below}
 use Rattle.meaning.proofs.Stretches.{value_small}
-use Rattle.conditioning.specs.Marks.{PLACES, Takes, MarksOnce, Markable, Marks, MarksAll}
+use Rattle.conditioning.specs.declared.Marks.{Marks}
+use Rattle.conditioning.specs.Marks.{PLACES, Takes, no_marks, MarksOnce, Markable, MarksOne, MarksAll}
 use Rattle.conditioning.proofs.Walk.{ccdef_takes_none, takes_its_value}
 
 -- WHICH VALUE AN ACTION TAKES
@@ -59,44 +60,43 @@ pub record Mark (first prefix n : ℕ) (xs : List CA) (at left : ℕ) (rest : Li
   pub low : start ≤ first + n
   pub few : count ≤ n
   pub undecided : 0 < v → start ≡ 0 → (count ≡ 0) × (stretch_from v prefix at left rest ≡ stretch_from v prefix 0 n xs)
-  pub done : 0 < v → start ≢ 0 → Marks first n (stretch_from v prefix 0 n xs) start count
+  pub done : 0 < v → start ≢ 0 → MarksOne first n (stretch_from v prefix 0 n xs) start count
 
 -- A TABLE
 
-abbrev pub Marking : ℕ → ℕ → ℕ → List CA → ℕ → ℕ → List CA → List ℕ → List ℕ → Type 0
-Marking first prefix n xs at left rest starts counts = (v : ℕ) → Mark first prefix n xs at left rest v (get_or starts v 0) (get_or counts v 0)
+abbrev pub Marking : ℕ → ℕ → ℕ → List CA → ℕ → ℕ → List CA → Marks → Type 0
+Marking first prefix n xs at left rest m = (v : ℕ) → Mark first prefix n xs at left rest v (get_or m.starts v 0) (get_or m.counts v 0)
 
-pub marking_none : {prefix n first : ℕ} {xs : List CA} {starts counts : List ℕ} → Markable n first starts counts → Marking first prefix n xs 0 n xs starts counts
-marking_none m v =
-    rw (m.starts_none, m.counts_none)
+pub marking_none : {prefix n first : ℕ} {xs rest : List CA} {m : Marks} → rest ≡ xs → Markable n first m → Marking first prefix n xs 0 n rest m
+marking_none e m v =
+    rw (m.starts_none, m.counts_none, e)
     (record { low = omega arith; few = omega arith; undecided = λ h z. (refl, refl); done = λ h z. absurd (z refl) })
 
--- columns that are made anew
+-- a table that is made anew
 zero_at : (n v : ℕ) → get_or {A = ℕ} (replicate n 0) v 0 ≡ 0
 zero_at zero v = refl
 zero_at (suc n) zero = refl
 zero_at (suc n) (suc v) = zero_at n v
 
-pub markable_anew : (n first : ℕ) → 0 < first → first + n ≤ 255 → Markable n first (replicate PLACES 0) (replicate PLACES 0)
-markable_anew n first h near =
-    record { not_zero = h; near = near; starts_long = refl; counts_long = refl; starts_none = zero_at PLACES; counts_none = zero_at PLACES }
+pub markable_anew : (n first : ℕ) → 0 < first → first + n ≤ 255 → Markable n first no_marks
+markable_anew n first h near = record { not_zero = h; near = near; starts_none = zero_at PLACES; counts_none = zero_at PLACES }
 
 -- the list ends
-pub marking_all : {first prefix n at left : ℕ} {xs : List CA} {starts counts : List ℕ} → Marking first prefix n xs at left [] starts counts → MarksAll prefix n first xs starts counts
+pub marking_all : {first prefix n at left : ℕ} {xs : List CA} {m : Marks} → length m.starts ≡ PLACES → length m.counts ≡ PLACES → Marking first prefix n xs at left [] m → MarksAll prefix n first xs m
 unfolding stretch_of
-marking_all {first} {prefix} {n} {at} {left} {xs} {starts} {counts} g =
-    record { low = λ v. (g v).low; few = λ v. (g v).few; marks = λ v h. go v h (eqb (get_or starts v 0) 0) refl }
+marking_all {first} {prefix} {n} {at} {left} {xs} {m} a b g =
+    record { starts_long = a; counts_long = b; low = λ v. (g v).low; few = λ v. (g v).few; marks = λ v h. go v h (eqb (get_or m.starts v 0) 0) refl }
   where
-    go : (v : ℕ) → 0 < v → (b : Bool) → eqb (get_or starts v 0) 0 ≡ b → Marks first n (stretch_from v prefix 0 n xs) (get_or starts v 0) (get_or counts v 0)
+    go : (v : ℕ) → 0 < v → (b : Bool) → eqb (get_or m.starts v 0) 0 ≡ b → MarksOne first n (stretch_from v prefix 0 n xs) (get_or m.starts v 0) (get_or m.counts v 0)
     go v h true e =
-        let o = (g v).undecided h (eqb-true (get_or starts v 0) 0 e) in
+        let o = (g v).undecided h (eqb-true (get_or m.starts v 0) 0 e) in
         let within : 0 ≤ n = omega arith in
         record {
           within = subst (λ (s : Stretch). s.start + s.count ≤ n) o.1 within;
           counted = o.0 ∙ ap (λ (s : Stretch). s.count) o.1;
           begins = λ z. absurd (z o.0);
         }
-    go v h false e = (g v).done h (eqb-false (get_or starts v 0) 0 e)
+    go v h false e = (g v).done h (eqb-false (get_or m.starts v 0) 0 e)
 
 -- the action at hand, which takes w digits of the value r
 module _ {first prefix n at left w r : ℕ} {xs ys : List CA} {a : CA} (takes : Takes a r) (w-is : w ≡ width prefix left a)
@@ -130,32 +130,30 @@ module _ {first prefix n at left w r : ℕ} {xs ys : List CA} {a : CA} (takes : 
   marked_before : (s c : ℕ) → s ≢ 0 → Mark first prefix n xs at left (a ∷ ys) r s c → Mark first prefix n xs (at + w) (left - w) ys r s c
   marked_before s c h m = record { low = m.low; few = m.few; undecided = λ k z. absurd (h z); done = m.done }
 
-  module _ (starts counts : List ℕ) {starts' counts' : List ℕ} {rest : List CA} (goes : rest ≡ a ∷ ys) (g : Marking first prefix n xs at left rest starts counts)
-      (starts-room : r < length starts) (counts-room : r < length counts) (m : MarksOnce r (first + at) w starts counts starts' counts') where
-    here : Marking first prefix n xs at left (a ∷ ys) starts counts
+  module _ (m : Marks) {m' : Marks} {rest : List CA} (goes : rest ≡ a ∷ ys) (g : Marking first prefix n xs at left rest m)
+      (starts-room : r < length m.starts) (counts-room : r < length m.counts) (once : MarksOnce r (record { start = first + at; count = w }) m m') where
+    here : Marking first prefix n xs at left (a ∷ ys) m
     here v = rw goes at (g v)
 
     abbrev Goes : ℕ → ℕ → ℕ → Type 0
     Goes v s c = Mark first prefix n xs (at + w) (left - w) ys v s c
 
-    pub marking_more : Marking first prefix n xs (at + w) (left - w) ys starts' counts'
-    marking_more v = go (eqb v r) refl (eqb (get_or starts r 0) 0) refl
+    pub marking_more : Marking first prefix n xs (at + w) (left - w) ys m'
+    marking_more v = go (eqb v r) refl (eqb (get_or m.starts r 0) 0) refl
       where
-        go : (b : Bool) → eqb v r ≡ b → (z : Bool) → eqb (get_or starts r 0) 0 ≡ z → Goes v (get_or starts' v 0) (get_or counts' v 0)
+        go : (b : Bool) → eqb v r ≡ b → (z : Bool) → eqb (get_or m.starts r 0) 0 ≡ z → Goes v (get_or m'.starts v 0) (get_or m'.counts v 0)
         go true e true z =
             let v-is : v ≡ r = eqb-true v r e in
-            let unmarked : get_or starts r 0 ≡ 0 = eqb-true (get_or starts r 0) 0 z in
-            let new = m.new unmarked in
-            rw (v-is, new.0, new.1, get_or-set_same starts r (first + at) 0 starts-room, get_or-set_same counts r w 0 counts-room) (now_marked (get_or counts r 0) (rw unmarked at (here r)))
+            let unmarked : get_or m.starts r 0 ≡ 0 = eqb-true (get_or m.starts r 0) 0 z in
+            rw (v-is, once.unmarked unmarked, get_or-set_same m.starts r (first + at) 0 starts-room, get_or-set_same m.counts r w 0 counts-room)
+            (now_marked (get_or m.counts r 0) (rw unmarked at (here r)))
         go true e false z =
             let v-is : v ≡ r = eqb-true v r e in
-            let marked : get_or starts r 0 ≢ 0 = eqb-false (get_or starts r 0) 0 z in
-            let kept = m.kept marked in
-            rw (v-is, kept.0, kept.1) (marked_before (get_or starts r 0) (get_or counts r 0) marked (here r))
+            let marked : get_or m.starts r 0 ≢ 0 = eqb-false (get_or m.starts r 0) 0 z in
+            rw (v-is, once.kept marked) (marked_before (get_or m.starts r 0) (get_or m.counts r 0) marked (here r))
         go false e true z =
-            let new = m.new (eqb-true (get_or starts r 0) 0 z) in
             let apart : v ≢ r = eqb-false v r e in
-            rw (new.0, new.1, get_or-set_other starts r v (first + at) 0 apart, get_or-set_other counts r v w 0 apart) (other v (get_or starts v 0) (get_or counts v 0) apart (here v))
+            rw (once.unmarked (eqb-true (get_or m.starts r 0) 0 z), get_or-set_other m.starts r v (first + at) 0 apart, get_or-set_other m.counts r v w 0 apart)
+            (other v (get_or m.starts v 0) (get_or m.counts v 0) apart (here v))
         go false e false z =
-            let kept = m.kept (eqb-false (get_or starts r 0) 0 z) in
-            rw (kept.0, kept.1) (other v (get_or starts v 0) (get_or counts v 0) (eqb-false v r e) (here v))
+            rw (once.kept (eqb-false (get_or m.starts r 0) 0 z)) (other v (get_or m.starts v 0) (get_or m.counts v 0) (eqb-false v r e) (here v))

@@ -2,7 +2,7 @@
 use Prim.Native.Nat.{ℕ, ◌+◌, ◌-◌, ◌≤◌, ◌<◌}
 use native.Mathlib.Omega.{arith}
 use native.Mathlib.Nat.{add-sub_cancel_left}
-use mathlib.Core.Path.{◌≡◌, refl, ap, ◌∙◌}
+use mathlib.Core.Path.{◌≡◌, refl, sym, ap, ◌∙◌}
 use mathlib.Core.Logic.{◌≢◌}
 use mathlib.Core.Bool.{Bool, true, false, ◌||◌, and-true, and-false}
 use mathlib.Core.List.{List, ◌∷◌}
@@ -19,7 +19,6 @@ use Rattle.meaning.specs.Reads.{stretch_by}
 use Rattle.meaning.specs.declared.Span.{Span}
 use Rattle.meaning.proofs.Tests.{same_tests, is_true, true_is, is_false, false_is, or_left_false, or_right_false}
 use Rattle.meaning.proofs.Stretches.{enough}
-use Rattle.actions.proofs.Lists.{on}
 use Rattle.conditioning.specs.Spans.{stretch_in, Covers}
 
 -- an X action meets too few digits where it meets none
@@ -42,7 +41,7 @@ pub enough_for : (prefix left : ℕ) {w : ℕ} {a : CA} {xs ys : List CA} → w 
 enough_for prefix left {w} {a} {xs} {ys} p q e =
     let few = meets_too_few prefix left a in
     let rest = short prefix (left - width prefix left a) ys in
-    let t = false_is (few || rest) (on (short prefix left) q e) in
+    let t = false_is (few || rest) (sym (ap (short prefix left) q) ∙ e) in
     rw p (enough prefix left a (is_false few (or_left_false few rest t)), is_false rest (or_right_false few rest t))
 
 -- CCDEF takes no value, and any other action its own

@@ -8,9 +8,9 @@ ghost use Rattle.meaning.specs.Groups.{fixed_of};
 ghost use Rattle.meaning.specs.Conditioning.{width, meets_too_few, short, takes_value, stretch_of, digits_at};
 ghost use Rattle.actions.specs.Reading.{action_of};
 ghost use Rattle.conditioning.specs.Spans.{stretch_in, Covers};
-ghost use Rattle.conditioning.specs.Marks.{Takes, MarksOnce, Markable, MarksUnlessShort};
+ghost use Rattle.conditioning.specs.Marks.{PLACES, Takes, no_marks, marked, marked_anew, MarksOnce, Markable, MarksUnlessShort};
 
-use actions::{ConditioningAction, action_at, fixed_of, is_x, value_of};
+use actions::{ConditioningAction, actions_in, fixed_of, is_x, value_of};
 use meaning::Span;
 use meaning::ca::CCDEF;
 use meaning::fa::DELIMITER_B;
@@ -43,18 +43,13 @@ pub fn is_short(cas: &[u8], prefix: usize, n: usize) -> bool
     ensures { result ≡ short prefix n (cas_of cas.now) }
 {
     let mut left = n;
-    let mut i = 0;
-    loop {
-        let a = action_at(cas, i);
-        if a.code == 0 {
-            return false;
-        }
+    for a in actions_in(cas) {
         if meets_too_few(a, prefix, left) {
             return true;
         }
         left -= width(a, prefix, left);
-        i += 2;
     }
+    false
 }
 
 // The action takes the value v from the number; CCDEF takes none.
@@ -74,12 +69,7 @@ pub fn span_of(cas: &[u8], prefix: usize, n: usize, v: u8) -> Span
 {
     let mut at = 0;
     let mut left = n;
-    let mut i = 0;
-    loop {
-        let a = action_at(cas, i);
-        if a.code == 0 {
-            return Span { start: 0, count: 0 };
-        }
+    for a in actions_in(cas) {
         let w = width(a, prefix, left);
         if takes_value(a, v) {
             return Span {
@@ -89,8 +79,8 @@ pub fn span_of(cas: &[u8], prefix: usize, n: usize, v: u8) -> Span
         }
         at += w;
         left -= w;
-        i += 2;
     }
+    Span { start: 0, count: 0 }
 }
 
 // The stretch that the value v covers of n digits; empty where they are too few.
@@ -116,7 +106,57 @@ pub fn stretch_in<'a>(cas: &[u8], prefix: usize, digits: &'a [u8], v: u8) -> &'a
 // MARKS: where the digits of every value lie, found in one walk
 
 // The places of a table of marks: one for each formatting code, of which conditioning sets the first ten, and place 0 for actions that take no value.
-pub const PLACES: usize = DELIMITER_B as usize + 1;
+const PLACES: usize = DELIMITER_B as usize + 1;
+
+// Where the digits of every value lie: at its number, the place of the first of them, 0 for a value that is not marked, and how many they are.
+#[derive(Clone, Copy)]
+pub struct Marks {
+    starts: [u8; PLACES],
+    counts: [u8; PLACES],
+}
+
+impl Marks {
+    // No value is marked.
+    pub fn none() -> Marks
+        ensures { result ≡ no_marks }
+    {
+        Marks {
+            starts: [0u8; PLACES],
+            counts: [0u8; PLACES],
+        }
+    }
+
+    // Where the digits of the value v lie.
+    pub fn span(&self, v: usize) -> Span
+        requires { v < PLACES }
+        ensures { result ≡ marked self.now v }
+    {
+        Span {
+            start: usize::from(self.starts[v]),
+            count: usize::from(self.counts[v]),
+        }
+    }
+
+    // Says anew where they lie.
+    pub fn put(&mut self, v: usize, span: Span)
+        requires { (v < PLACES) × (span.start < 256) × (span.count < 256) }
+        ensures { self.new ≡ marked_anew self.old v span }
+    {
+        self.starts[v] = span.start as u8;
+        self.counts[v] = span.count as u8;
+    }
+
+    // Marks a value that is not marked yet.
+    fn mark(&mut self, v: usize, span: Span)
+        requires { (v < PLACES) × (span.start < 256) × (span.count < 256) }
+        ensures { MarksOnce v span self.old self.new }
+    {
+        if self.starts[v] != 0 {
+            return;
+        }
+        self.put(v, span);
+    }
+}
 
 // The value whose digits each conditioning code takes, four bits for a code, the lowest for code 0: those that it sets, but none for CCDEF. A number and
 // not an array, so that nothing is read from memory.
@@ -133,46 +173,26 @@ fn value_taken(a: ConditioningAction) -> usize
     (VALUES_TAKEN >> (4 * code)) as usize % 16
 }
 
-// Marks a value that is not marked yet.
-fn mark(v: usize, start: usize, count: usize, starts: &mut [u8], counts: &mut [u8])
-    requires { (v < length starts.old) × (v < length counts.old) × (start < 256) × (count < 256) }
-    ensures { MarksOnce v start count starts.old counts.old starts.new counts.new }
-{
-    if starts[v] != 0 {
-        return;
-    }
-    starts[v] = start as u8;
-    counts[v] = count as u8;
-}
-
 // Whether some action meets too few of n digits; where none does, marks where the digits of each value lie; else nothing is said of the table. The first
 // digit has place `first`, which is not 0.
-pub fn mark_spans(
-    cas: &[u8],
-    prefix: usize,
-    n: usize,
-    first: usize,
-    starts: &mut [u8],
-    counts: &mut [u8],
-) -> bool
-    requires { Markable n first starts.old counts.old }
-    ensures { MarksUnlessShort prefix n first (cas_of cas.now) starts.new counts.new result }
+pub fn mark_spans(cas: &[u8], prefix: usize, n: usize, first: usize, marks: &mut Marks) -> bool
+    requires { Markable n first marks.old }
+    ensures { MarksUnlessShort prefix n first (cas_of cas.now) marks.new result }
 {
     let mut taken = 0;
     let mut left = n;
-    let mut i = 0;
-    loop {
-        let a = action_at(cas, i);
-        if a.code == 0 {
-            return false;
-        }
+    for a in actions_in(cas) {
         if meets_too_few(a, prefix, left) {
             return true;
         }
         let w = width(a, prefix, left);
-        mark(value_taken(a), first + taken, w, starts, counts);
+        let span = Span {
+            start: first + taken,
+            count: w,
+        };
+        marks.mark(value_taken(a), span);
         taken += w;
         left -= w;
-        i += 2;
     }
+    false
 }

@@ -1,7 +1,7 @@
 -- What the examiner tests is soundness: header, set slots and rule slots are each the image of the plan that the memory holds, in both directions.
 use Prim.Native.Nat.{ℕ, ◌+◌, ◌-◌, ◌*◌}
 use mathlib.Core.Path.{◌≡◌, ap, ap₂, sym, subst, ◌∙◌}
-use mathlib.Core.Bool.{Bool, true, false}
+use mathlib.Core.Bool.{true, false}
 use mathlib.Core.List.{List, ◌++◌, map, append_assoc}
 use mathlib.Core.Option.{Option}
 use native.Mathlib.Omega.{arith}
@@ -9,21 +9,21 @@ use lib.ListN.{length, take, drop, length-drop, take-append-drop}
 use lib.Seq.{take-add, take_at, drop_at, length-take-le}
 use lib.Dec.{T, le→leb}
 use Rattle.meaning.specs.Sizes.{ROOMS-BYTES, SETTINGS-BYTES, SETTINGS-AT, SETS-AT, SET-WIDTH, RULE-WIDTH}
-use Rattle.meaning.specs.Basics.{all, word}
-use Rattle.meaning.specs.Settings.{rooms_of, bytes_needed}
+use Rattle.meaning.specs.Basics.{all}
+use Rattle.meaning.specs.Settings.{bytes_needed}
 use Rattle.meaning.specs.Rules.{Rule, rules_in_order}
 use Rattle.meaning.specs.Plan.{slot_passes, codes_pass, rules_fit}
 use Rattle.meaning.proofs.Tests.{true_is, and_left, and_right, and_both, each_all, same_tests, same_self}
 use Rattle.meaning.proofs.Soundness.{Sound, sound_of_lem}
 use Rattle.buffer.specs.Zeros.{zeros}
-use Rattle.buffer.specs.Slots.{slots, flat}
+use Rattle.buffer.specs.Slots.{flat}
 use Rattle.buffer.proofs.SlotLaws.{slots_part}
 use Rattle.filter.specs.Slots.{rules_of}
 use Rattle.filter.proofs.RuleLaws.{length_rules, rules_part}
-use Rattle.plan.specs.Layout.{slot_image, rule_image, header_image, sets_image, rules_image, image, rooms_at, size_of, set_room, rule_room, rule_count, slot_of, slots_of, plan_of}
+use Rattle.plan.specs.Layout.{slot_image, rule_image, header_image, sets_image, rules_image, image, size_of, set_room, rule_room, rule_count, slot_of, slots_of, plan_of}
 use Rattle.plan.specs.State.{sound_tests, sound_of}
 use Rattle.plan.proofs.ImageLaws.{header_size, sets_size, SoundMemory, sound_memory}
-use Rattle.examiner.specs.Examined.{fixed_pass, header_passes, areas_pass, set_area, rule_area, examined, Sized}
+use Rattle.examiner.specs.Examined.{fixed_pass, header_passes, bytes_pass, set_area, rule_area, body_pass, examined, Sized}
 use Rattle.blocks.proofs.EndianLaws.{Bytes, bytes_front, bytes_behind}
 use Rattle.examiner.proofs.Headers.{Header, header_parts, header_of, header_numbers, header_image_lem, image_fixed}
 use Rattle.examiner.proofs.Held.{Held, length_sets, held_of, held_pass}
@@ -161,31 +161,29 @@ module _ (m : List ℕ) where
     where
       to : T (examined m) → T (sound_of m)
       to t =
-          let h : Header m = header_parts m (and_left (header_passes m) (areas_pass (set_room m) sets (rule_count m) rules) t) in
+          let h : Header m = header_parts m (and_left (header_passes m) (bytes_pass (set_room m) sets (rule_count m) rules) t) in
           let k : Held (set_room m) sets (rule_count m) free rules =
           held_of (set_room m) sets (rule_count m) free rules (set_size h) (rule_size h) (bytes_front (SET-WIDTH * set_room m) (drop SETS-AT m) (bytes_behind SETS-AT m b))
           (bytes_front (RULE-WIDTH * rule_room m) (drop (SETS-AT + SET-WIDTH * set_room m) m) (bytes_behind (SETS-AT + SET-WIDTH * set_room m) m b))
-          (and_right (header_passes m) (areas_pass (set_room m) sets (rule_count m) rules) t) in
+          (and_right (header_passes m) (bytes_pass (set_room m) sets (rule_count m) rules) t) in
           passing_sound h k b
 
       from : T (sound_of m) → T (examined m)
       from t =
           let s : SoundMemory m = sound_memory m t in
-          and_both (header_passes m) (areas_pass (set_room m) sets (rule_count m) rules) (header_of m (sound_header s))
+          and_both (header_passes m) (bytes_pass (set_room m) sets (rule_count m) rules) (header_of m (sound_header s))
           (held_pass (set_room m) sets (rule_count m) free rules (sound_held s))
 
-  -- BY WHAT WAS READ: the header's test, and the rooms and the count
+  -- THE TWO TESTS
 
   pub header_fails : Bytes m → header_passes m ≡ false → sound_of m ≡ false
   unfolding examined
   header_fails b e = sym (examined_sound b) ∙ rw e
 
-  module _ (passed : header_passes m ≡ true) (room rules-room count : ℕ) (room-is : room ≡ word (rooms_at m) 0) (rules-is : rules-room ≡ word (rooms_at m) 2)
-      (count_is : count ≡ word m 4) where
-    pub numbers_read : Sized room rules-room count m
-    unfolding rooms_of
-    numbers_read = rw (room-is, rules-is, count_is) (header_numbers m (header_parts m (true_is (header_passes m) passed)))
+  module _ (passed : header_passes m ≡ true) where
+    pub body_numbers : Sized (set_room m) (rule_room m) (rule_count m) m
+    body_numbers = header_numbers m (header_parts m (true_is (header_passes m) passed))
 
-    pub areas_decide : (r : Bool) → Bytes m → r ≡ areas_pass room (set_area room m) count (rule_area room rules-room m) → r ≡ sound_of m
-    unfolding examined rooms_of
-    areas_decide r b r-is = r-is ∙ rw (room-is, rules-is, count_is) (sym (sym (examined_sound b) ∙ rw passed))
+    pub body_decides : Bytes m → sound_of m ≡ body_pass m
+    unfolding examined
+    body_decides b = sym (examined_sound b) ∙ rw passed

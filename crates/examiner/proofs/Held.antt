@@ -21,7 +21,7 @@ use Rattle.filter.specs.Slots.{rule_of, rules_of}
 use Rattle.filter.proofs.RuleLaws.{length_rules}
 use Rattle.plan.specs.Layout.{slot_image, rule_image, slot_of, slots_of}
 use Rattle.plan.proofs.ImageLaws.{slot_size, rule_size}
-use Rattle.examiner.specs.Examined.{slot_test, set_fits, rule_test, areas_tests, areas_pass}
+use Rattle.examiner.specs.Examined.{slot_test, set_fits, rule_test, areas_tests, areas_pass, bytes_pass}
 use Rattle.blocks.proofs.EndianLaws.{Bytes, bytes_front, bytes_behind}
 use Rattle.examiner.proofs.SetSlots.{slot_content, slot_image_lem, image_passes}
 use Rattle.examiner.proofs.RuleSlots.{rule_code, rule_fits, rule_image_lem, rule_passes_lem}
@@ -86,49 +86,51 @@ module _ (room : ℕ) (sets : List ℕ) (count rest : ℕ) (rules : List ℕ) wh
     pub rule_bytes : flat (map rule_image (rules_of count rules)) ++ zeros (RULE-WIDTH * rest) ≡ rules
 
   module _ (set_size : length sets ≡ SET-WIDTH * room) (rule-size-is : length rules ≡ RULE-WIDTH * count + RULE-WIDTH * rest) where
-    pub held_of : Bytes sets → Bytes rules → T (areas_pass room sets count rules) → Held
+    pub held_of : Bytes sets → Bytes rules → T (bytes_pass room sets count rules) → Held
     unfolding areas_pass slots_of rules_of codes_pass rules_fit set_fits
     held_of b c t =
         let ss : List (List ℕ) = slots SET-WIDTH room sets in
         let rs : List (List ℕ) = slots RULE-WIDTH count rules in
         let s-are : Slots SET-WIDTH ss = cut_slots SET-WIDTH room sets (omega arith) b in
         let r-are : Slots RULE-WIDTH rs = cut_slots RULE-WIDTH count rules (omega arith) c in
-        let s-pass : T (all slot_test ss) = all_at 0 (areas_tests room sets count rules) t in
-        let r-pass : T (all (rule_test room sets) rs) = all_at 1 (areas_tests room sets count rules) t in
+        let s-pass : T (all slot_test ss) = all_at 0 (areas_tests ss rs (drop (RULE-WIDTH * count) rules)) t in
+        let r-pass : T (all (rule_test ss) rs) = all_at 1 (areas_tests ss rs (drop (RULE-WIDTH * count) rules)) t in
         let free : drop (RULE-WIDTH * count) rules ≡ zeros (RULE-WIDTH * rest) =
-        all_zeros (drop (RULE-WIDTH * count) rules) (all_at 3 (areas_tests room sets count rules) t) ∙ ap zeros (length-drop (RULE-WIDTH * count) rules ∙ omega arith) in
+        all_zeros (drop (RULE-WIDTH * count) rules) (all_at 3 (areas_tests ss rs (drop (RULE-WIDTH * count) rules)) t) ∙ ap zeros (length-drop (RULE-WIDTH * count) rules ∙ omega arith) in
         record {
           pass = reads_pass SET-WIDTH slot_of (slot_image 0) slot_test slot_passes slot_content ss s-are s-pass;
-          codes = reads_pass RULE-WIDTH rule_of rule_image (rule_test room sets) rule_passes (rule_code room sets) rs r-are r-pass;
-          order = rising_order (map rule_of rs) (all_at 2 (areas_tests room sets count rules) t);
-          fits = reads_pass RULE-WIDTH rule_of rule_image (rule_test room sets) (set_fits room sets) (rule_fits room sets) rs r-are r-pass;
+          codes = reads_pass RULE-WIDTH rule_of rule_image (rule_test ss) rule_passes (rule_code ss) rs r-are r-pass;
+          order = rising_order (map rule_of rs) (all_at 2 (areas_tests ss rs (drop (RULE-WIDTH * count) rules)) t);
+          fits = reads_pass RULE-WIDTH rule_of rule_image (rule_test ss) (set_fits ss) (rule_fits ss) rs r-are r-pass;
           set_bytes =
               ap flat (images_are SET-WIDTH slot_of (slot_image 0) slot_test slot_passes (λ s h k. slot_image_lem s h) ss s-are s-pass)
               ∙ flat_slots SET-WIDTH room sets ∙ take_all (SET-WIDTH * room) sets (omega arith);
           rule_bytes =
               ap₂ (λ (x y : List ℕ). x ++ y)
-              (ap flat (images_are RULE-WIDTH rule_of rule_image (rule_test room sets) rule_passes (λ s h k u. rule_image_lem room sets s h u k) rs r-are r-pass) ∙ flat_slots RULE-WIDTH count rules)
+              (ap flat (images_are RULE-WIDTH rule_of rule_image (rule_test ss) rule_passes (λ s h k u. rule_image_lem ss s h u k) rs r-are r-pass) ∙ flat_slots RULE-WIDTH count rules)
               (sym free)
               ∙ take-append-drop (RULE-WIDTH * count) rules;
         }
 
-  pub held_pass : Held → T (areas_pass room sets count rules)
-  unfolding areas_pass codes_pass rules_fit set_fits
+  pub held_pass : Held → T (bytes_pass room sets count rules)
+  unfolding areas_pass slots_of rules_of codes_pass rules_fit set_fits
   held_pass h =
+      let ss : List (List ℕ) = slots SET-WIDTH room sets in
       let os : List (Option (List ℕ)) = slots_of room sets in
-      let rs : List Rule = rules_of count rules in
+      let rules-in : List Rule = rules_of count rules in
+      let rs : List (List ℕ) = slots RULE-WIDTH count rules in
       let s-wide : Wide SET-WIDTH (map (slot_image 0) os) = images_wide SET-WIDTH slot_of (slot_image 0) slot_test slot_passes (slot_size 0) os h.pass in
-      let r-wide : Wide RULE-WIDTH (map rule_image rs) = images_wide RULE-WIDTH rule_of rule_image (rule_test room sets) rule_passes rule_size rs h.codes in
+      let r-wide : Wide RULE-WIDTH (map rule_image rules-in) = images_wide RULE-WIDTH rule_of rule_image (rule_test ss) rule_passes rule_size rules-in h.codes in
       let s-slots : slots SET-WIDTH room sets ≡ map (slot_image 0) os =
       slots_are SET-WIDTH room (slot_image 0) os [] sets s-wide (length_sets room sets) (append-nil (flat (map (slot_image 0) os)) ∙ h.set_bytes) in
-      let r-slots : slots RULE-WIDTH count rules ≡ map rule_image rs = slots_are RULE-WIDTH count rule_image rs (zeros (RULE-WIDTH * rest)) rules r-wide (length_rules count rules) h.rule_bytes in
-      let many : length (flat (map rule_image rs)) ≡ RULE-WIDTH * count = length_flat RULE-WIDTH (map rule_image rs) r-wide ∙ ap (λ n. RULE-WIDTH * n) (length-map rs rule_image ∙ length_rules count rules) in
+      let r-slots : slots RULE-WIDTH count rules ≡ map rule_image rules-in = slots_are RULE-WIDTH count rule_image rules-in (zeros (RULE-WIDTH * rest)) rules r-wide (length_rules count rules) h.rule_bytes in
+      let many : length (flat (map rule_image rules-in)) ≡ RULE-WIDTH * count = length_flat RULE-WIDTH (map rule_image rules-in) r-wide ∙ ap (λ n. RULE-WIDTH * n) (length-map rules-in rule_image ∙ length_rules count rules) in
       let free : drop (RULE-WIDTH * count) rules ≡ zeros (RULE-WIDTH * rest) =
-      ap (drop (RULE-WIDTH * count)) (sym h.rule_bytes) ∙ drop_at (flat (map rule_image rs)) (zeros (RULE-WIDTH * rest)) (RULE-WIDTH * count) many in
+      ap (drop (RULE-WIDTH * count)) (sym h.rule_bytes) ∙ drop_at (flat (map rule_image rules-in)) (zeros (RULE-WIDTH * rest)) (RULE-WIDTH * count) many in
       let s-pass : T (all slot_test (slots SET-WIDTH room sets)) = rw s-slots (images_pass SET-WIDTH slot_of (slot_image 0) slot_test slot_passes image_passes os h.pass) in
-      let r-pass : T (all (rule_test room sets) (slots RULE-WIDTH count rules)) =
-      rw r-slots (images_pass RULE-WIDTH rule_of rule_image (rule_test room sets) (λ r. rule_passes r && set_fits room sets r)
-      (λ r t. rule_passes_lem room sets r (and_left (rule_passes r) (set_fits room sets r) t) (and_right (rule_passes r) (set_fits room sets r) t))
-      rs (all_both rule_passes (set_fits room sets) rs h.codes h.fits)) in
+      let r-pass : T (all (rule_test ss) (slots RULE-WIDTH count rules)) =
+      rw r-slots (images_pass RULE-WIDTH rule_of rule_image (rule_test ss) (λ r. rule_passes r && set_fits ss r)
+      (λ r t. rule_passes_lem ss r (and_left (rule_passes r) (set_fits ss r) t) (and_right (rule_passes r) (set_fits ss r) t))
+      rules-in (all_both rule_passes (set_fits ss) rules-in h.codes h.fits)) in
       let unused : T (all is_zero (drop (RULE-WIDTH * count) rules)) = rw free (zeros_pass (RULE-WIDTH * rest)) in
-      each_all (areas_tests room sets count rules) (s-pass, (r-pass, (order_rising rs h.order, (unused, tt))))
+      each_all (areas_tests ss rs (drop (RULE-WIDTH * count) rules)) (s-pass, (r-pass, (order_rising rules-in h.order, (unused, tt))))

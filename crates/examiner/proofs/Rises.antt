@@ -1,21 +1,23 @@
 -- Rules that each stand before the next stand before all later ones; and the walk that compares neighbours, in which what is left decides.
-use Prim.Native.Nat.{ℕ, ◌+◌, ◌-◌, ◌*◌, ◌≤◌, ◌<◌, Ordering}
+use Prim.Native.Nat.{ℕ, suc, ◌+◌, ◌-◌, ◌≤◌, ◌<◌}
 use mathlib.Core.Path.{◌≡◌, refl, ap, sym, ◌∙◌}
-use mathlib.Core.Bool.{Bool, true, false, ◌&&◌}
-use mathlib.Core.List.{List, [], ◌∷◌}
+use mathlib.Core.Bool.{Bool, true, false, true≢false, ◌&&◌}
+use mathlib.Core.List.{List, [], ◌∷◌, map}
 use native.Mathlib.Omega.{arith}
-use lib.ListN.{take, drop}
-use lib.Dec.{T, leb}
-use borrow.Author.Tests.{leb-true, leb-false}
-use Rattle.meaning.specs.Sizes.{RULE-WIDTH}
+use lib.ListN.{length, drop, get_or, length-drop}
+use lib.Seq.{drop-cons}
+use lib.Dec.{T}
+use Rattle.std.specs.Ordering.{is_ge}
+use Rattle.std.specs.declared.cmp.Ordering.{Ordering as Compared}
+use Rattle.std.specs.declared.cmp.Ordering.TheVariants.{Less, Equal, Greater}
 use Rattle.meaning.specs.Basics.{all}
 use Rattle.meaning.specs.Filters.{filter_of, compare_filters, is_lt}
+use Rattle.meaning.specs.Answers.{ordering_of}
 use Rattle.meaning.specs.Rules.{Rule, filter_in, rules_in_order}
 use Rattle.meaning.proofs.Tests.{and_left, and_right, and_both, all_weaken}
 use Rattle.meaning.proofs.RuleLists.{before, before_trans}
-use Rattle.buffer.proofs.SlotLaws.{times_more}
-use Rattle.filter.specs.Slots.{FilterBytes, RuleArea, rule_of, rules_of}
-use Rattle.filter.proofs.RuleLaws.{filter_in_lem, rules_from, rules_full, rules_end, rules_more, slot_bytes}
+use Rattle.filter.specs.Slots.{rule_of}
+use Rattle.filter.proofs.RuleLaws.{filter_in_lem}
 use Rattle.examiner.specs.Examined.{before_next, rising}
 
 -- NEIGHBOURS AND ALL
@@ -43,44 +45,46 @@ order_rising (r ∷ rs) t =
     and_both (before_next r rs) (rising rs) (next_of_all r rs (and_left (all (before (filter_in r)) rs) (rules_in_order rs) t))
     (order_rising rs (and_right (all (before (filter_in r)) rs) (rules_in_order rs) t))
 
--- THE WALK: the rules before place i stand before their next
+-- THE WALK: the rules before the one before place i stand before their next
 
-abbrev pub Risen : ℕ → List ℕ → ℕ → Type 0
-Risen n m i = rising (rules_of n m) ≡ rising (rules_from n i m)
+abbrev pub Risen : List (List ℕ) → ℕ → Type 0
+Risen ss i = rising (map rule_of ss) ≡ rising (map rule_of (drop (i - 1) ss))
 
-pub risen_none : (n : ℕ) (m : List ℕ) → Risen n m 0
-risen_none n m = rw (rules_full n m)
+module _ (ss : List (List ℕ)) (i : ℕ) (h : Risen ss i) where
+  -- no rule, or one
+  pub risen_all : length ss ≤ i → rising (map rule_of ss) ≡ true
+  risen_all l = h ∙ go (drop (i - 1) ss) (rw (length-drop (i - 1) ss) (omega arith))
+    where
+      go : (rest : List (List ℕ)) → length rest ≤ 1 → rising (map rule_of rest) ≡ true
+      go [] l = refl
+      go (s ∷ []) l = refl
+      go (s ∷ t ∷ rest) l = absurd (omega arith)
 
-module _ (n i : ℕ) (m : List ℕ) where
-  -- the next slot has a filter's bytes, as the part that is lent
-  pub next_bytes : RuleArea n m → i + 1 < n → FilterBytes (take (RULE-WIDTH * i + RULE-WIDTH + RULE-WIDTH - (RULE-WIDTH * i + RULE-WIDTH)) (drop (RULE-WIDTH * i + RULE-WIDTH) m))
-  next_bytes area h = rw (times_more RULE-WIDTH i) at (slot_bytes n (i + 1) m area h)
+  -- o is the order of the filters in slot i and the one before it
+  module _ (o : Compared) (first : 1 ≤ i) (inside : i < length ss) (o_is : ordering_of o ≡ compare_filters (filter_of (get_or ss (i - 1) [])) (filter_of (get_or ss i []))) where
+    risen_step : rising (map rule_of ss) ≡ (is_lt (ordering_of o) && rising (map rule_of (drop i ss)))
+    risen_step =
+        let s : List ℕ = get_or ss (i - 1) [] in
+        let t : List ℕ = get_or ss i [] in
+        let k : suc (i - 1) ≡ i = omega arith in
+        let here : drop (i - 1) ss ≡ s ∷ drop i ss = drop-cons ss (i - 1) [] (omega arith) ∙ rw k in
+        let c : ordering_of o ≡ compare_filters (filter_in (rule_of s)) (filter_in (rule_of t)) = o_is ∙ rw (filter_in_lem s, filter_in_lem t) in
+        let next : before_next (rule_of s) (map rule_of (drop i ss)) ≡ is_lt (ordering_of o) =
+        ap (λ (r : List (List ℕ)). before_next (rule_of s) (map rule_of r)) (drop-cons ss i [] inside) ∙ ap is_lt (sym c) in
+        h ∙ ap (λ (r : List (List ℕ)). rising (map rule_of r)) here ∙ ap (λ (b : Bool). b && rising (map rule_of (drop i ss))) next
 
-  module _ (h : Risen n m i) where
-    -- no rule, or one
-    pub risen_all : n ≤ i + 1 → rising (rules_of n m) ≡ true
-    risen_all l = go (leb n i) refl
+    pub risen_more : is_ge o ≡ false → Risen ss (i + 1)
+    risen_more e = let k : i + 1 - 1 ≡ i = omega arith in risen_step ∙ rw (k, is_less o e)
       where
-        go : (b : Bool) → leb n i ≡ b → rising (rules_of n m) ≡ true
-        go true e = h ∙ rw (rules_end n i m (leb-true n i e))
-        go false e = h ∙ rw (rules_more n i m (leb-false n i e), rules_end n (i + 1) m l)
+        is_less : (o : Compared) → is_ge o ≡ false → is_lt (ordering_of o) ≡ true
+        is_less Less e = refl
+        is_less Equal e = absurd (true≢false e)
+        is_less Greater e = absurd (true≢false e)
 
-    -- o is the order of the filters in the two slots that were lent
-    module _ (o : Ordering) (inside : i + 1 < n)
-        (o_is : o ≡ compare_filters (filter_of (take (RULE-WIDTH * i + RULE-WIDTH - RULE-WIDTH * i) (drop (RULE-WIDTH * i) m))) (filter_of (take (RULE-WIDTH * i + RULE-WIDTH + RULE-WIDTH - (RULE-WIDTH * i + RULE-WIDTH)) (drop (RULE-WIDTH * i + RULE-WIDTH) m)))) where
-      risen_step : rising (rules_of n m) ≡ (is_lt o && rising (rules_from n (i + 1) m))
-      risen_step =
-          let r : Rule = rule_of (take RULE-WIDTH (drop (RULE-WIDTH * i) m)) in
-          let s : Rule = rule_of (take RULE-WIDTH (drop (RULE-WIDTH * (i + 1)) m)) in
-          let a : RULE-WIDTH * i + RULE-WIDTH - RULE-WIDTH * i ≡ RULE-WIDTH = omega arith in
-          let b : RULE-WIDTH * i + RULE-WIDTH + RULE-WIDTH - (RULE-WIDTH * i + RULE-WIDTH) ≡ RULE-WIDTH = omega arith in
-          let c : o ≡ compare_filters (filter_in r) (filter_in s) =
-          o_is ∙ rw (a, b, filter_in_lem (take RULE-WIDTH (drop (RULE-WIDTH * i) m)), filter_in_lem (take RULE-WIDTH (drop (RULE-WIDTH * (i + 1)) m)), times_more RULE-WIDTH i) in
-          let next : before_next r (rules_from n (i + 1) m) ≡ is_lt o = ap (before_next r) (rules_more n (i + 1) m inside) ∙ ap is_lt (sym c) in
-          h ∙ ap rising (rules_more n i m (omega arith)) ∙ ap (λ (b : Bool). b && rising (rules_from n (i + 1) m)) next
-
-      pub risen_more : o ≡ Ordering.lt → Risen n m (i + 1)
-      risen_more e = risen_step ∙ rw e
-
-      pub risen_not : is_lt o ≡ false → rising (rules_of n m) ≡ false
-      risen_not e = risen_step ∙ rw e
+    pub risen_not : is_ge o ≡ true → rising (map rule_of ss) ≡ false
+    risen_not e = risen_step ∙ rw (is_more o e)
+      where
+        is_more : (o : Compared) → is_ge o ≡ true → is_lt (ordering_of o) ≡ false
+        is_more Less e = absurd (true≢false (sym e))
+        is_more Equal e = refl
+        is_more Greater e = refl

@@ -1,13 +1,13 @@
 -- A set slot passes exactly if its content does and its bytes are the content's image; and the content of a slot by its place in the area.
-use Prim.Native.Nat.{ℕ, ◌+◌, ◌*◌, ◌≤◌, ◌<◌}
+use Prim.Native.Nat.{ℕ, ◌≤◌, ◌<◌}
 use mathlib.Core.Path.{◌≡◌, ap, sym, ◌∙◌}
 use mathlib.Core.Bool.{Bool, true, false}
 use mathlib.Core.List.{List, [], ◌∷◌, ◌++◌, map}
 use mathlib.Core.Option.{Option, none, some}
 use native.Mathlib.Omega.{arith}
 use lib.ListN.{length, take, drop, get_or, length-drop, take-append-drop, get_or-map, get_or-eq_default, length-map}
-use lib.Seq.{drop-cons, drop-drop, take_at, drop_at, length-take-le, get_or-take, get_or-drop}
-use lib.Dec.{T, eqb, eqb→eq, lit<, lit≤}
+use lib.Seq.{drop-cons, drop-drop, take_at, drop_at, length-take-le}
+use lib.Dec.{T, eqb→eq}
 use borrow.Author.Tests.{eq-eqb, ne_eqb}
 use Rattle.meaning.specs.Sizes.{CONTENT-BYTES, CONTENT-AT, COUNT-AT, SET-WIDTH}
 use Rattle.meaning.specs.Basics.{all, all_of, is_zero, part}
@@ -16,12 +16,9 @@ use Rattle.meaning.specs.Actions.{actions_of, content_in_range}
 use Rattle.meaning.specs.Groups.{groups_hold}
 use Rattle.meaning.specs.Plan.{sized, content_rules, content_passes, slot_passes}
 use Rattle.meaning.proofs.Tests.{each_all, all_at}
-use Rattle.buffer.proofs.ListLaws.{part_part}
 use Rattle.buffer.specs.Zeros.{zeros}
-use Rattle.buffer.specs.Slots.{slots}
-use Rattle.buffer.proofs.SlotLaws.{slot_at, length_slots}
 use Rattle.buffer.proofs.ZeroLaws.{all_zeros}
-use Rattle.plan.specs.Layout.{word_bytes, slot_image, slot_of, slots_of}
+use Rattle.plan.specs.Layout.{word_bytes, slot_image, slot_of}
 use Rattle.examiner.specs.Examined.{held_tests, slot_test}
 use Rattle.examiner.proofs.Bytes.{last_zeros}
 
@@ -34,13 +31,6 @@ empty_slot s e = rw (eq-eqb (get_or s 0 0) 0 e)
 pub held_slot : (s : List ℕ) → (get_or s 0 0 ≡ 0 → ⊥) → slot_test s ≡ all_of (held_tests s)
 unfolding slot_test
 held_slot s h = rw (ne_eqb (get_or s 0 0) 0 h)
-
--- the first byte of a held slot
-pub held_one : (x : ℕ) → (x ≡ 0 → ⊥) → x ≤ 1 → eqb x 1 ≡ true
-held_one x h k = eq-eqb x 1 (omega arith)
-
-pub held_many : (x : ℕ) → 1 < x → eqb x 1 ≡ false
-held_many x h = ne_eqb x 1 (λ e. omega arith)
 
 -- A SLOT THAT PASSES
 
@@ -89,31 +79,21 @@ image_passes (some c) t =
     let unused : T (all is_zero (take 2 (drop CONTENT-BYTES (c ++ word_bytes 0)))) = rw behind tt in
     each_all (held_tests (1 ∷ c ++ word_bytes 0)) (tt, (range, (rules, (unused, tt))))
 
--- THE CONTENT AT A PLACE
+-- THE CONTENT AT A PLACE, by its slot t and the first byte of it
 
-module _ (room n : ℕ) (sets : List ℕ) where
-  content_at : n < room → get_or (slots_of room sets) n none ≡ slot_of (take SET-WIDTH (drop (SET-WIDTH * n) sets))
-  unfolding slots_of slot_of
-  content_at h = get_or-map slot_of (slots SET-WIDTH room sets) n [] ∙ ap slot_of (slot_at SET-WIDTH n room sets h)
+module _ (n : ℕ) (sets : List (List ℕ)) where
+  pub slot_behind : length sets ≤ n → get_or (map slot_of sets) n none ≡ none
+  slot_behind h = get_or-eq_default (map slot_of sets) none (rw (length-map sets slot_of) h)
 
-  pub slot_behind : room ≤ n → get_or (slots_of room sets) n none ≡ none
-  unfolding slots_of
-  slot_behind h =
-      get_or-eq_default (map slot_of (slots SET-WIDTH room sets)) none (rw (length-map (slots SET-WIDTH room sets) slot_of, length_slots SET-WIDTH room sets) h)
-
-  -- by the first byte of the slot
-  module _ (h : n < room) where
-    first_at : get_or (take SET-WIDTH (drop (SET-WIDTH * n) sets)) 0 0 ≡ get_or sets (SET-WIDTH * n) 0
-    first_at =
-        let k : SET-WIDTH * n + 0 ≡ SET-WIDTH * n = omega arith in
-        get_or-take SET-WIDTH (drop (SET-WIDTH * n) sets) 0 0 (lit< tt) ∙ rw (get_or-drop (SET-WIDTH * n) sets 0 0, k)
-
-    pub slot_empty : get_or sets (SET-WIDTH * n) 0 ≡ 0 → get_or (slots_of room sets) n none ≡ none
+  module _ (t : List ℕ) (h : n < length sets) (t-is : get_or sets n [] ≡ t) where
+    content_at : get_or (map slot_of sets) n none ≡ slot_of t
     unfolding slot_of
-    slot_empty e = content_at h ∙ rw (first_at, eq-eqb (get_or sets (SET-WIDTH * n) 0) 0 e)
+    content_at = get_or-map slot_of sets n [] ∙ ap slot_of t-is
 
-    pub slot_held : (get_or sets (SET-WIDTH * n) 0 ≡ 0 → ⊥) → get_or (slots_of room sets) n none ≡ some (take CONTENT-BYTES (drop (SET-WIDTH * n + CONTENT-AT) sets))
+    pub slot_empty : get_or t 0 0 ≡ 0 → get_or (map slot_of sets) n none ≡ none
     unfolding slot_of
-    slot_held e =
-        content_at h
-        ∙ rw (first_at, ne_eqb (get_or sets (SET-WIDTH * n) 0) 0 e, part_part CONTENT-AT CONTENT-BYTES SET-WIDTH (drop (SET-WIDTH * n) sets) (lit≤ tt), drop-drop CONTENT-AT (SET-WIDTH * n) sets)
+    slot_empty e = content_at ∙ rw (eq-eqb (get_or t 0 0) 0 e)
+
+    pub slot_held : (get_or t 0 0 ≡ 0 → ⊥) → get_or (map slot_of sets) n none ≡ some (part CONTENT-AT CONTENT-BYTES t)
+    unfolding slot_of
+    slot_held e = content_at ∙ rw (ne_eqb (get_or t 0 0) 0 e)

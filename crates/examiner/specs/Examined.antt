@@ -1,5 +1,5 @@
 -- What the examiner tests, in the order in which it does: the header, each set slot, each rule slot, each rule and the next, and the free slots.
-use Rattle.std.specs.Prelude.{ℕ, ◌+◌, ◌-◌, ◌*◌, ◌≤◌, Bool, true, ◌&&◌, List, [], ◌∷◌, length, drop, get_or, leb, eqb}
+use Rattle.std.specs.Prelude.{ℕ, ◌+◌, ◌-◌, ◌*◌, ◌≤◌, Bool, true, ◌&&◌, List, [], ◌∷◌, map, length, drop, get_or, leb, eqb}
 use Rattle.std.proofs.Math.Option.{none}
 use Rattle.meaning.specs.Sizes.{SETTINGS-BYTES, CONTENT-BYTES, RULE-BODY, SETTINGS-AT, SETTINGS-END, SETS-AT, CONTENT-AT, COUNT-AT, SET-WIDTH, RULE-WIDTH}
 use Rattle.meaning.specs.Basics.{all, all_of, is_zero, part, begins_with}
@@ -11,8 +11,8 @@ use Rattle.meaning.specs.Actions.{actions_of, content_in_range}
 use Rattle.meaning.specs.Groups.{groups_hold}
 use Rattle.meaning.specs.Plan.{fits_held}
 use Rattle.buffer.specs.Slots.{slots}
-use Rattle.filter.specs.Slots.{rule_of, rules_of}
-use Rattle.plan.specs.Layout.{mark, rooms_at, size_of, set_room, rule_room, rule_count, slots_of}
+use Rattle.filter.specs.Slots.{rule_of}
+use Rattle.plan.specs.Layout.{mark, rooms_at, size_of, set_room, rule_room, rule_count, slot_of}
 
 -- THE HEADER
 
@@ -52,18 +52,18 @@ held_tests s = eqb (get_or s 0 0) 1 ∷ content_in_range (part CONTENT-AT CONTEN
 unfoldable pub slot_test : List ℕ → Bool
 slot_test s = if is_zero (get_or s 0 0) then all is_zero s else all_of (held_tests s)
 
--- A RULE SLOT, over the area of the set slots and how many there are
+-- A RULE SLOT, over the set slots
 
 -- the set that a rule names is held, and the rule's filter fits it
-unfoldable pub set_fits : ℕ → List ℕ → Rule → Bool
-set_fits room sets r = fits_held (filter_in r) (get_or (slots_of room sets) r.set none)
+unfoldable pub set_fits : List (List ℕ) → Rule → Bool
+set_fits sets r = fits_held (filter_in r) (get_or (map slot_of sets) r.set none)
 
 -- its filter in range, nothing behind its set number, and its set held and fitting
-abbrev pub rule_tests : ℕ → List ℕ → List ℕ → List Bool
-rule_tests room sets s = filter_in_range (rule_of s).code ∷ all is_zero (part RULE-BODY (RULE-WIDTH - RULE-BODY) s) ∷ set_fits room sets (rule_of s) ∷ []
+abbrev pub rule_tests : List (List ℕ) → List ℕ → List Bool
+rule_tests sets s = filter_in_range (rule_of s).code ∷ all is_zero (part RULE-BODY (RULE-WIDTH - RULE-BODY) s) ∷ set_fits sets (rule_of s) ∷ []
 
-unfoldable pub rule_test : ℕ → List ℕ → List ℕ → Bool
-rule_test room sets s = all_of (rule_tests room sets s)
+unfoldable pub rule_test : List (List ℕ) → List ℕ → Bool
+rule_test sets s = all_of (rule_tests sets s)
 
 -- LISTING ORDER, neighbour by neighbour
 
@@ -75,15 +75,17 @@ abbrev pub rising : List Rule → Bool
 rising [] = true
 rising (r ∷ rs) = before_next r rs && rising rs
 
--- THE AREAS OF THE SET SLOTS AND OF THE RULE SLOTS
+-- THE SET SLOTS, THE RULE SLOTS THAT ARE HELD, AND THE FREE ONES
 
-abbrev pub areas_tests : ℕ → List ℕ → ℕ → List ℕ → List Bool
-areas_tests room sets count rules =
-    all slot_test (slots SET-WIDTH room sets) ∷ all (rule_test room sets) (slots RULE-WIDTH count rules) ∷ rising (rules_of count rules)
-    ∷ all is_zero (drop (RULE-WIDTH * count) rules) ∷ []
+abbrev pub areas_tests : List (List ℕ) → List (List ℕ) → List ℕ → List Bool
+areas_tests sets rules free = all slot_test sets ∷ all (rule_test sets) rules ∷ rising (map rule_of rules) ∷ all is_zero free ∷ []
 
-unfoldable pub areas_pass : ℕ → List ℕ → ℕ → List ℕ → Bool
-areas_pass room sets count rules = all_of (areas_tests room sets count rules)
+unfoldable pub areas_pass : List (List ℕ) → List (List ℕ) → List ℕ → Bool
+areas_pass sets rules free = all_of (areas_tests sets rules free)
+
+-- the same of their bytes, with room for so many sets, and so many rules held
+abbrev pub bytes_pass : ℕ → List ℕ → ℕ → List ℕ → Bool
+bytes_pass room sets count rules = areas_pass (slots SET-WIDTH room sets) (slots RULE-WIDTH count rules) (drop (RULE-WIDTH * count) rules)
 
 -- the set slots, and the rule slots, held or free
 abbrev pub set_area : ℕ → List ℕ → List ℕ
@@ -92,16 +94,13 @@ set_area room m = part SETS-AT (SET-WIDTH * room) m
 abbrev pub rule_area : ℕ → ℕ → List ℕ → List ℕ
 rule_area room rules m = part (SETS-AT + SET-WIDTH * room) (RULE-WIDTH * rules) m
 
+abbrev pub body_pass : List ℕ → Bool
+body_pass m = bytes_pass (set_room m) (set_area (set_room m) m) (rule_count m) (rule_area (set_room m) (rule_room m) m)
+
 unfoldable pub examined : List ℕ → Bool
-examined m = header_passes m && areas_pass (set_room m) (set_area (set_room m) m) (rule_count m) (rule_area (set_room m) (rule_room m) m)
+examined m = header_passes m && body_pass m
 
--- WHAT THE EXAMINER'S PARTS ASK
-
--- areas that hold so many slots
-pub record Areas (room : ℕ) (sets : List ℕ) (count : ℕ) (rules : List ℕ) : Type 0 where
-  pub set_slots : SET-WIDTH * room ≤ length sets
-  pub few : count ≤ 4096
-  pub rule_slots : RULE-WIDTH * count ≤ length rules
+-- WHAT THE BODY'S EXAMINATION ASKS
 
 -- rooms and a count of rules in range, in a memory of the size that they need
 pub record Sized (room rules count : ℕ) (m : List ℕ) : Type 0 where

@@ -1,96 +1,62 @@
 -- The listing order of two filters, by what was read of their bytes.
-use Prim.Native.Nat.{ℕ, zero, suc, ◌+◌, ◌-◌, ◌≤◌, ◌<◌, compare, Ordering}
-use mathlib.Core.Path.{◌≡◌, refl, sym, ap, ap₂, ◌∙◌}
+use Prim.Native.Nat.{ℕ, ◌≤◌, ◌<◌, compare, Ordering}
+use mathlib.Core.Path.{◌≡◌, refl, sym, ap, ◌∙◌}
 use mathlib.Core.List.{List}
-use native.Mathlib.Numerals.{add-one}
-use native.Mathlib.Omega.{arith}
-use lib.ListN.{length, get_or, take, drop, drop_of_length-le}
+use lib.ListN.{length, get_or, drop, drop_of_length-le}
 use lib.Seq.{drop-cons}
-use Rattle.meaning.specs.Sizes.{CLASS-AT, PREFIX-AT, PREFIX-DIGITS-AT, LENGTH-AT}
+use Rattle.std.specs.Ordering.{nat_cmp}
+use Rattle.std.specs.declared.cmp.Ordering.{Ordering as Compared}
+use Rattle.std.specs.declared.cmp.Ordering.TheVariants.{Less, Equal, Greater}
+use Rattle.std.proofs.lemmas.Cmp.{ranked, by_ranked}
+use Rattle.meaning.specs.Sizes.{CLASS-AT, LENGTH-AT}
 use Rattle.meaning.specs.Filters.{filter_of, ◌then◌, compare_prefixes, compare_lengths, compare_filters}
+use Rattle.meaning.specs.Answers.{ordering_of}
 use Rattle.meaning.proofs.ListingOrder.{numbers, compare_less, compare_more}
-use Rattle.filter.specs.Slots.{FilterBytes}
-use Rattle.filter.proofs.FilterLaws.{prefix_is}
-
-compare_same : (x y : ℕ) → x ≤ y → y ≤ x → compare x y ≡ Ordering.eq
-compare_same x y h k = let e : y ≡ x = omega arith in rw e (numbers.self x)
 
 -- PREFIXES: what is left to compare decides
 
 module _ (xs ys : List ℕ) (i : ℕ) (so_far : compare_prefixes xs ys ≡ compare_prefixes (drop i xs) (drop i ys)) where
-  module _ (a : i < length xs) where
-    module _ (b : i < length ys) where
-      prefix_step : compare_prefixes xs ys ≡ compare (get_or xs i 0) (get_or ys i 0) then compare_prefixes (drop (i + 1) xs) (drop (i + 1) ys)
-      prefix_step = so_far ∙ rw (add-one, drop-cons xs i 0, drop-cons ys i 0)
+  pub prefix_longer : i < length xs → length ys ≤ i → Ordering.gt ≡ compare_prefixes xs ys
+  prefix_longer a l = sym (so_far ∙ rw (drop-cons xs i 0, drop_of_length-le ys))
 
-      pub prefix_less : get_or xs i 0 < get_or ys i 0 → compare_prefixes xs ys ≡ Ordering.lt
-      prefix_less l = prefix_step ∙ rw (compare_less (get_or xs i 0) (get_or ys i 0) l)
+  pub prefix_shorter : length xs ≤ i → i < length ys → Ordering.lt ≡ compare_prefixes xs ys
+  prefix_shorter a b = sym (so_far ∙ rw (drop_of_length-le xs, drop-cons ys i 0))
 
-      pub prefix_more : get_or ys i 0 < get_or xs i 0 → compare_prefixes xs ys ≡ Ordering.gt
-      prefix_more l = prefix_step ∙ rw (compare_more (get_or xs i 0) (get_or ys i 0) l)
+-- FILTERS: by class; then, with o the order of the prefixes, by o and the lengths
 
-      pub prefix_again : get_or xs i 0 ≤ get_or ys i 0 → get_or ys i 0 ≤ get_or xs i 0 → compare_prefixes xs ys ≡ compare_prefixes (drop (i + 1) xs) (drop (i + 1) ys)
-      prefix_again l m = prefix_step ∙ rw (compare_same (get_or xs i 0) (get_or ys i 0) l m)
+-- the library's order of numbers
+number_as : (x y : ℕ) → ordering_of (nat_cmp x y) ≡ compare x y
+number_as x y =
+    by_ranked _ _ _ (nat_cmp x y) (ranked x y (nat_cmp x y) refl)
+    (λ e l. ap ordering_of e ∙ sym (compare_less x y l))
+    (λ e q. ap ordering_of e ∙ rw q (sym (numbers.self y)))
+    (λ e l. ap ordering_of e ∙ sym (compare_more x y l))
 
-    pub prefix_longer : length ys ≤ i → compare_prefixes xs ys ≡ Ordering.gt
-    prefix_longer l = so_far ∙ rw (drop-cons xs i 0, drop_of_length-le ys)
+then_decided : (x y : Ordering) → (x ≡ Ordering.eq → ⊥) → x then y ≡ x
+then_decided Ordering.lt y n = refl
+then_decided Ordering.eq y n = absurd (n refl)
+then_decided Ordering.gt y n = refl
 
-  pub prefix_shorter : length xs ≤ i → i < length ys → compare_prefixes xs ys ≡ Ordering.lt
-  prefix_shorter a b = so_far ∙ rw (drop_of_length-le xs, drop-cons ys i 0)
-
-  pub prefix_equal : length xs ≤ i → length ys ≤ i → compare_prefixes xs ys ≡ Ordering.eq
-  prefix_equal a b = so_far ∙ rw (drop_of_length-le xs, drop_of_length-le ys)
-
--- LENGTHS
-
-pub length_same : (l m : ℕ) → l ≡ m → compare_lengths l m ≡ Ordering.eq
-length_same zero zero e = refl
-length_same zero (suc m) e = absurd (omega arith)
-length_same (suc l) zero e = absurd (omega arith)
-length_same (suc l) (suc m) e = compare_same (suc l) (suc m) (omega arith) (omega arith)
-
-pub length_wildcard : (l m : ℕ) → l ≡ 0 → (l ≡ m → ⊥) → compare_lengths l m ≡ Ordering.gt
-length_wildcard zero zero e n = absurd (n refl)
-length_wildcard zero (suc m) e n = refl
-length_wildcard (suc l) m e n = absurd (omega arith)
-
-pub length_stated : (l m : ℕ) → (l ≡ 0 → ⊥) → m ≡ 0 → compare_lengths l m ≡ Ordering.lt
-length_stated zero m n e = absurd (n refl)
-length_stated (suc l) zero n e = refl
-length_stated (suc l) (suc m) n e = absurd (omega arith)
-
-pub length_numbers : (l m : ℕ) → (l ≡ 0 → ⊥) → (m ≡ 0 → ⊥) → compare_lengths l m ≡ compare l m
-length_numbers zero m a b = absurd (a refl)
-length_numbers (suc l) zero a b = absurd (b refl)
-length_numbers (suc l) (suc m) a b = refl
-
--- FILTERS: by class; then, with p and q the prefixes' lengths as read and o the order of the two parts, by o and the lengths
+undecided : (o : Compared) → ordering_of o ≡ Ordering.eq → o ≡ Equal
+undecided Less e = cc
+undecided Equal e = refl
+undecided Greater e = cc
 
 module _ (a b : List ℕ) where
-  pub class_less : get_or a CLASS-AT 0 < get_or b CLASS-AT 0 → compare_filters (filter_of a) (filter_of b) ≡ Ordering.lt
+  pub by_class : (o : Compared) → o ≡ nat_cmp (get_or a CLASS-AT 0) (get_or b CLASS-AT 0) → (get_or a CLASS-AT 0 ≡ get_or b CLASS-AT 0 → ⊥) → ordering_of o ≡ compare_filters (filter_of a) (filter_of b)
   unfolding compare_filters filter_of
-  class_less h = rw (compare_less (get_or a CLASS-AT 0) (get_or b CLASS-AT 0) h)
+  by_class o o_is n =
+      let e : ordering_of o ≡ compare (get_or a CLASS-AT 0) (get_or b CLASS-AT 0) = ap ordering_of o_is ∙ number_as (get_or a CLASS-AT 0) (get_or b CLASS-AT 0) in
+      let d : compare (get_or a CLASS-AT 0) (get_or b CLASS-AT 0) ≡ Ordering.eq → ⊥ = λ q. n (numbers.same (get_or a CLASS-AT 0) (get_or b CLASS-AT 0) q) in
+      e ∙ sym (then_decided (compare (get_or a CLASS-AT 0) (get_or b CLASS-AT 0)) (compare_prefixes (filter_of a).prefix (filter_of b).prefix then compare_lengths (get_or a LENGTH-AT 0) (get_or b LENGTH-AT 0)) d)
 
-  pub class_more : get_or b CLASS-AT 0 < get_or a CLASS-AT 0 → compare_filters (filter_of a) (filter_of b) ≡ Ordering.gt
-  unfolding compare_filters filter_of
-  class_more h = rw (compare_more (get_or a CLASS-AT 0) (get_or b CLASS-AT 0) h)
-
-  module _ (p q : ℕ) (o : Ordering) (ab : FilterBytes a) (bb : FilterBytes b) (h : get_or b CLASS-AT 0 ≤ get_or a CLASS-AT 0) (k : get_or a CLASS-AT 0 ≤ get_or b CLASS-AT 0)
-      (p-is : p ≡ get_or a PREFIX-AT 0) (q-is : q ≡ get_or b PREFIX-AT 0) (o_is : o ≡ compare_prefixes (take (p + PREFIX-DIGITS-AT - PREFIX-DIGITS-AT) (drop PREFIX-DIGITS-AT a)) (take (q + PREFIX-DIGITS-AT - PREFIX-DIGITS-AT) (drop PREFIX-DIGITS-AT b))) where
-    class_same : compare_filters (filter_of a) (filter_of b) ≡ o then compare_lengths (get_or a LENGTH-AT 0) (get_or b LENGTH-AT 0)
+  module _ (o : Compared) (h : get_or a CLASS-AT 0 ≡ get_or b CLASS-AT 0) (o_is : ordering_of o ≡ compare_prefixes (filter_of a).prefix (filter_of b).prefix) where
+    class_same : compare_filters (filter_of a) (filter_of b) ≡ ordering_of o then compare_lengths (get_or a LENGTH-AT 0) (get_or b LENGTH-AT 0)
     unfolding compare_filters filter_of
-    class_same =
-        let x : p + PREFIX-DIGITS-AT - PREFIX-DIGITS-AT ≡ get_or a PREFIX-AT 0 = omega arith in
-        let y : q + PREFIX-DIGITS-AT - PREFIX-DIGITS-AT ≡ get_or b PREFIX-AT 0 = omega arith in
-        let e : compare_prefixes (filter_of a).prefix (filter_of b).prefix ≡ o =
-        ap₂ compare_prefixes (prefix_is a ab ∙ ap (λ (n : ℕ). take n (drop PREFIX-DIGITS-AT a)) (sym x)) (prefix_is b bb ∙ ap (λ (n : ℕ). take n (drop PREFIX-DIGITS-AT b)) (sym y)) ∙ sym o_is in
-        rw (compare_same (get_or a CLASS-AT 0) (get_or b CLASS-AT 0) k h) (ap (λ (t : Ordering). t then compare_lengths (get_or a LENGTH-AT 0) (get_or b LENGTH-AT 0)) e)
+    class_same = rw (h, numbers.self (get_or b CLASS-AT 0), o_is)
 
-    pub by_prefix_less : o ≡ Ordering.lt → compare_filters (filter_of a) (filter_of b) ≡ Ordering.lt
-    by_prefix_less e = class_same ∙ rw e
+    pub by_length : o ≡ Equal → compare_lengths (get_or a LENGTH-AT 0) (get_or b LENGTH-AT 0) ≡ compare_filters (filter_of a) (filter_of b)
+    by_length e = sym (class_same ∙ rw e)
 
-    pub by_prefix_more : o ≡ Ordering.gt → compare_filters (filter_of a) (filter_of b) ≡ Ordering.gt
-    by_prefix_more e = class_same ∙ rw e
-
-    pub by_length : o ≡ Ordering.eq → compare_filters (filter_of a) (filter_of b) ≡ compare_lengths (get_or a LENGTH-AT 0) (get_or b LENGTH-AT 0)
-    by_length e = class_same ∙ rw e
+    pub by_prefix : (o ≡ Equal → ⊥) → ordering_of o ≡ compare_filters (filter_of a) (filter_of b)
+    by_prefix n = sym (class_same ∙ then_decided (ordering_of o) (compare_lengths (get_or a LENGTH-AT 0) (get_or b LENGTH-AT 0)) (λ q. n (undecided o q)))

@@ -1,5 +1,5 @@
 -- The exact place of a filter in a list in order: what it says of the list, and what adding, changing and removing make there.
-use Prim.Native.Nat.{ℕ, suc, ◌+◌, ◌*◌, ◌-◌, ◌≤◌, ◌<◌, zero-le, Ordering}
+use Prim.Native.Nat.{ℕ, suc, ◌+◌, ◌*◌, ◌≤◌, ◌<◌, zero-le, Ordering}
 use mathlib.Core.Path.{◌≡◌, refl, sym, ap, ◌∙◌}
 use mathlib.Core.List.{List, [], ◌∷◌}
 use mathlib.Core.Option.{none, some}
@@ -15,10 +15,11 @@ use Rattle.meaning.specs.History.{no_rule}
 use Rattle.meaning.proofs.RuleLists.{is_lt_lem}
 use Rattle.meaning.proofs.Tests.{and_left, and_right}
 use Rattle.meaning.proofs.ListingOrder.{filters}
-use Rattle.buffer.specs.Slots.{insert_at, remove_at}
-use Rattle.filter.specs.Slots.{rules_of, rule_of}
+use Rattle.buffer.specs.Slots.{slots, insert_at, remove_at}
+use Rattle.buffer.proofs.SlotLaws.{slot_at, length_slots}
+use Rattle.filter.specs.Slots.{FilterBytes, RuleArea, rules_of, rule_of}
 use Rattle.filter.specs.Place.{Place, held, absent, by_order, place_from, filter_place}
-use Rattle.filter.proofs.RuleLaws.{rules_from, rules_full, rules_end, rules_more, filter_in_lem}
+use Rattle.filter.proofs.RuleLaws.{own_bytes, rules_from, rules_full, rules_end, rules_more, filter_in_lem}
 
 -- WHERE NO RULE HAS THE FILTER
 
@@ -166,32 +167,45 @@ module _ (f : Filter) (rs : List Rule) (k : ℕ) (order : T (rules_in_order rs))
       let q : k ≡ s.0 = omega (arith, s.1) in
       rw q s.2
 
--- THE WALK: what is left to compare decides
+-- THE WALK: what is left to compare decides. ss are the slots, i the next place
 
-abbrev pub Walked : (f : Filter) (rules : List ℕ) (n i : ℕ) → Type 0
-Walked f rules n i = filter_place f (rules_of n rules) ≡ place_from i f (rules_from n i rules)
+pub record Walked (f : Filter) (rules : List ℕ) (n : ℕ) (ss : List (List ℕ)) (i : ℕ) : Type 0 where
+  pub lent : ss ≡ slots RULE-WIDTH n rules
+  pub left : filter_place f (rules_of n rules) ≡ place_from i f (rules_from n i rules)
 
-pub walked_none : (f : Filter) (rules : List ℕ) (n : ℕ) → Walked f rules n 0
+pub walked_none : (f : Filter) (rules : List ℕ) (n : ℕ) (ss : List (List ℕ)) → ss ≡ slots RULE-WIDTH n rules → Walked f rules n ss 0
 unfolding filter_place
-walked_none f rules n = rw (rules_full n rules)
+walked_none f rules n ss e = record { lent = e; left = rw (rules_full n rules) }
 
-module _ (f : Filter) (rules : List ℕ) (n i : ℕ) (h : Walked f rules n i) where
-  -- o is the order of f and the filter in the slot that was lent
-  module _ (o : Ordering) (inside : i < n) (o_is : o ≡ compare_filters f (filter_of (take (RULE-WIDTH * i + RULE-WIDTH - RULE-WIDTH * i) (drop (RULE-WIDTH * i) rules)))) where
+module _ {f : Filter} {rules : List ℕ} {n i : ℕ} {ss : List (List ℕ)} (h : Walked f rules n ss i) where
+  length_lent : length ss ≡ n
+  length_lent = ap length h.lent ∙ length_slots RULE-WIDTH n rules
+
+  -- the next slot has a filter's bytes
+  pub walked_bytes : RuleArea n rules → i < length ss → FilterBytes (get_or ss i [])
+  walked_bytes area inside =
+      let l : i < n = omega (arith, inside, length_lent) in
+      rw (h.lent, slot_at RULE-WIDTH i n rules l) (own_bytes n i rules area l)
+
+  -- o is the order of f and the filter in the next slot
+  module _ {o : Ordering} (inside : i < length ss) (o_is : o ≡ compare_filters f (filter_of (get_or ss i []))) where
     walked_step : filter_place f (rules_of n rules) ≡ by_order o i (place_from (i + 1) f (rules_from n (i + 1) rules))
     walked_step =
-        let k : RULE-WIDTH * i + RULE-WIDTH - RULE-WIDTH * i ≡ RULE-WIDTH = omega arith in
-        let q : o ≡ compare_filters f (filter_in (rule_of (take RULE-WIDTH (drop (RULE-WIDTH * i) rules)))) = o_is ∙ rw (k, filter_in_lem (take RULE-WIDTH (drop (RULE-WIDTH * i) rules))) in
-        h ∙ rw (rules_more n i rules inside, ← q)
+        let l : i < n = omega (arith, inside, length_lent) in
+        let s : get_or ss i [] ≡ take RULE-WIDTH (drop (RULE-WIDTH * i) rules) = rw h.lent (slot_at RULE-WIDTH i n rules l) in
+        let q : o ≡ compare_filters f (filter_in (rule_of (take RULE-WIDTH (drop (RULE-WIDTH * i) rules)))) = o_is ∙ rw (s, filter_in_lem (take RULE-WIDTH (drop (RULE-WIDTH * i) rules))) in
+        h.left ∙ rw (rules_more n i rules l, ← q)
 
-    pub walked_absent : o ≡ Ordering.lt → filter_place f (rules_of n rules) ≡ absent i
-    walked_absent e = walked_step ∙ rw e
+    pub walked_absent : o ≡ Ordering.lt → absent i ≡ filter_place f (rules_of n rules)
+    walked_absent e = sym (walked_step ∙ rw e)
 
-    pub walked_held : o ≡ Ordering.eq → filter_place f (rules_of n rules) ≡ held i
-    walked_held e = walked_step ∙ rw e
+    pub walked_held : o ≡ Ordering.eq → held i ≡ filter_place f (rules_of n rules)
+    walked_held e = sym (walked_step ∙ rw e)
 
-    pub walked_more : o ≡ Ordering.gt → Walked f rules n (i + 1)
-    walked_more e = walked_step ∙ rw e
+    pub walked_more : o ≡ Ordering.gt → Walked f rules n ss (i + 1)
+    walked_more e = record { lent = h.lent; left = walked_step ∙ rw e }
 
-  pub walked_end : n ≤ i → filter_place f (rules_of n rules) ≡ absent i
-  walked_end l = h ∙ rw (rules_end n i rules l)
+  pub walked_end : i ≤ length ss → length ss ≤ i → absent n ≡ filter_place f (rules_of n rules)
+  walked_end a b =
+      let k : n ≡ i = omega (arith, a, b, length_lent) in
+      sym (h.left ∙ rw (rules_end n i rules (omega arith), k))

@@ -1,23 +1,24 @@
 -- The rules of an area of slots: the one at a place, and what is left of them in a walk.
-use Prim.Native.Nat.{ℕ, suc, ◌+◌, ◌*◌, ◌-◌, ◌≤◌, ◌<◌}
-use mathlib.Core.Path.{◌≡◌, ap, ◌∙◌}
+use Prim.Native.Nat.{ℕ, zero, suc, ◌+◌, ◌*◌, ◌-◌, ◌/◌, ◌≤◌, ◌<◌}
+use mathlib.Core.Path.{◌≡◌, refl, ap, ◌∙◌}
 use mathlib.Core.List.{List, [], ◌∷◌, map}
 use mathlib.Core.Option.{Option, none, some}
 use mathlib.Core.Bool.{Bool, true, false}
 use native.Mathlib.Nat.{sub-zero}
 use native.Mathlib.Omega.{arith}
-use lib.ListN.{length, take, drop, get_or, set, get_elem?, length-map, get_or-map, length-drop}
+use lib.ListN.{length, take, drop, get_or, get_elem?, length-map, get_or-map, length-drop}
 use lib.Seq.{length-take-le, get_or-take, get_or-drop}
 use lib.Dec.{T, ltb, lit<, leb→le}
 use borrow.Author.Tests.{lt-ltb, le-ltb}
 use Rattle.meaning.specs.Sizes.{PREFIX-AT, FILTER-BYTES, RULE-WIDTH}
 use Rattle.meaning.specs.Basics.{word}
 use Rattle.std.specs.Prelude.{if◌then◌else◌}
+use Rattle.std.specs.Simd.{first_chunks}
 use Rattle.meaning.specs.Filters.{filter_of}
 use Rattle.meaning.specs.Rules.{Rule, filter_in, weight, first_largest_from, first_largest, chosen_place}
 use Rattle.meaning.proofs.Tests.{all_place}
 use Rattle.buffer.specs.Slots.{slots}
-use Rattle.buffer.proofs.SlotLaws.{length_slots, slots_next, slots_part, slot_at}
+use Rattle.buffer.proofs.SlotLaws.{length_slots, slots_first, slots_next, slots_part, slot_at}
 use Rattle.buffer.proofs.ListLaws.{element_at}
 use Rattle.filter.specs.Slots.{FilterBytes, RuleArea, rule_of, rules_of, prefix_fits}
 use Rattle.filter.proofs.FilterLaws.{filter_part}
@@ -47,15 +48,30 @@ set_read a m =
     let n : a + (FILTER-BYTES + 1) ≡ a + FILTER-BYTES + 1 = omega arith in
     rw (high, low, n)
 
--- slot i of an area, as a part that is lent, has a filter's bytes
-pub slot_bytes : (n i : ℕ) (m : List ℕ) → RuleArea n m → i < n → FilterBytes (take (RULE-WIDTH * i + RULE-WIDTH - RULE-WIDTH * i) (drop (RULE-WIDTH * i) m))
-slot_bytes n i m area h =
-    let k : RULE-WIDTH * i + RULE-WIDTH - RULE-WIDTH * i ≡ RULE-WIDTH = omega arith in
+-- the first n of the chunks that an area is cut into are its slots
+chunks_as : (w k : ℕ) (m : List ℕ) → first_chunks w k m ≡ slots w k m
+chunks_as w zero m = refl
+chunks_as w (suc k) m = ap (λ (ss : List (List ℕ)). take w m ∷ ss) (chunks_as w k (drop w m))
+
+pub lent_slots : (n : ℕ) (m : List ℕ) → RuleArea n m → take n (first_chunks RULE-WIDTH (length m / RULE-WIDTH) m) ≡ slots RULE-WIDTH n m
+lent_slots n m area =
+    let l : n ≤ length m / RULE-WIDTH = omega (arith, area.room) in
+    rw (chunks_as RULE-WIDTH (length m / RULE-WIDTH) m) (slots_first RULE-WIDTH n (length m / RULE-WIDTH) m l)
+
+-- slot i of an area has a filter's bytes
+pub own_bytes : (n i : ℕ) (m : List ℕ) → RuleArea n m → i < n → FilterBytes (take RULE-WIDTH (drop (RULE-WIDTH * i) m))
+own_bytes n i m area h =
     let l : RULE-WIDTH ≤ length (drop (RULE-WIDTH * i) m) = simp length-drop (omega (arith, area.room)) in
     let e : length (take RULE-WIDTH (drop (RULE-WIDTH * i) m)) ≡ RULE-WIDTH = length-take-le RULE-WIDTH (drop (RULE-WIDTH * i) m) l in
     let t : T (prefix_fits (get_or (slots RULE-WIDTH n m) i [])) = all_place prefix_fits (slots RULE-WIDTH n m) [] i area.prefixes (rw (length_slots RULE-WIDTH n m) h) in
     let u : T (prefix_fits (take RULE-WIDTH (drop (RULE-WIDTH * i) m))) = rw (slot_at RULE-WIDTH i n m h) at t in
-    rw k (record { whole = omega arith; prefix = leb→le (get_or (take RULE-WIDTH (drop (RULE-WIDTH * i) m)) PREFIX-AT 0) 16 u })
+    record { whole = omega arith; prefix = leb→le (get_or (take RULE-WIDTH (drop (RULE-WIDTH * i) m)) PREFIX-AT 0) 16 u }
+
+-- the same where it is lent as a part
+pub slot_bytes : (n i : ℕ) (m : List ℕ) → RuleArea n m → i < n → FilterBytes (take (RULE-WIDTH * i + RULE-WIDTH - RULE-WIDTH * i) (drop (RULE-WIDTH * i) m))
+slot_bytes n i m area h =
+    let k : RULE-WIDTH * i + RULE-WIDTH - RULE-WIDTH * i ≡ RULE-WIDTH = omega arith in
+    rw k (own_bytes n i m area h)
 
 -- A WALK: the rules from place i on
 

@@ -1,10 +1,9 @@
 -- The exact place of a filter among rules in listing order: held at a place, or absent, with the place where adding would put it.
 use Prim.Native.Nat.{ℕ, ◌+◌, Ordering}
-use Rattle.std.specs.Prelude.{List, [], ◌∷◌}
+use Rattle.std.specs.Prelude.{List, [], ◌∷◌, Result, Ok, Err}
 use Rattle.meaning.specs.Filters.{Filter, compare_filters}
 use Rattle.meaning.specs.Rules.{Rule, filter_in}
-use Rattle.meaning.specs.declared.FilterPlace.{FilterPlace}
-use Rattle.meaning.specs.declared.FilterPlace.TheVariants.{Held, Absent}
+use Rattle.meaning.specs.declared.RulePlace.{RulePlace}
 
 -- held at a place; or absent, and added before the rule at a place
 pub data Place : Type 0 where
@@ -26,7 +25,7 @@ place_from k f (r ∷ rs) = by_order (compare_filters f (filter_in r)) k (place_
 unfoldable pub filter_place : Filter → List Rule → Place
 filter_place f rs = place_from 0 f rs
 
--- the answer's meaning
-abbrev pub place_given : FilterPlace → Place
-place_given (Held k) = held k.0
-place_given (Absent k) = absent k.0
+-- the answer's meaning: Ok where it is held, Err where adding would put it
+abbrev pub place_given : Result RulePlace RulePlace → Place
+place_given (Ok k) = held k.0
+place_given (Err k) = absent k.0

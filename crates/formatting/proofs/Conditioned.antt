@@ -5,13 +5,13 @@ use mathlib.Core.Bool.{Bool, true, false}
 use mathlib.Core.List.{List, [], ◌∷◌, ◌++◌, append_assoc, append-nil}
 use native.Mathlib.Nat.{sub-zero}
 use native.Mathlib.Omega.{arith}
-use lib.ListN.{length, take, drop, get_or, length-append}
+use lib.ListN.{length, take, get_or, length-append}
 use lib.Seq.{take_all}
 use borrow.Rule.Slice.PartMut.{put_mid, mid_of}
 use Rattle.meaning.specs.Basics.{part, written_over}
 use Rattle.std.specs.Prelude.{if◌then◌else◌}
 use Rattle.meaning.specs.Settings.{settings_of}
-use Rattle.meaning.specs.Actions.{CC, AC, SN, DN, ZN, CA, cas_of, codes_of}
+use Rattle.meaning.specs.Actions.{CC, AC, SN, DN, ZN, CA, cas_of}
 use Rattle.meaning.specs.Groups.{is_set}
 use Rattle.meaning.specs.Conditioning.{short, stretch_of, digits_at, value_from, conditioned_from}
 use Rattle.meaning.specs.Services.{join}
@@ -55,43 +55,43 @@ conditioned_by_lem xs value = go (is_set ZN xs) (is_set DN xs)
     go false true = rw append-nil
     go false false = rw append-nil
 
-module _ (settings digits cas : List ℕ) (prefix : ℕ) (codes : List ℕ) (e : codes_of codes ≡ conditioned_codes (cas_of cas)) where
-  conditioned_is : join (values_of settings digits cas prefix) (codes_of codes) ≡ conditioned settings digits cas prefix
+module _ (settings digits cas : List ℕ) (prefix : ℕ) where
+  conditioned_is : join (values_of settings digits cas prefix) (conditioned_codes (cas_of cas)) ≡ conditioned settings digits cas prefix
   unfolding conditioned
-  conditioned_is = rw e (conditioned_by_lem (cas_of cas) (values_of settings digits cas prefix))
+  conditioned_is = conditioned_by_lem (cas_of cas) (values_of settings digits cas prefix)
 
-  pub conditioned_room : {n : ℕ} → length (conditioned settings digits cas prefix) ≤ n → length (join (values_of settings digits cas prefix) (codes_of codes)) ≤ n
-  conditioned_room h = rw conditioned_is h
+  pub conditioned_room : {codes : List ℕ} {n : ℕ} → codes ≡ conditioned_codes (cas_of cas) → length (conditioned settings digits cas prefix) ≤ n → length (join (values_of settings digits cas prefix) codes) ≤ n
+  conditioned_room e h = rw (e, conditioned_is) h
 
-  pub conditioned_writes : {old out : List ℕ} {r : ℕ} → Writes (join (values_of settings digits cas prefix) (codes_of codes)) old out r
+  pub conditioned_writes : {codes old out : List ℕ} {r : ℕ} → codes ≡ conditioned_codes (cas_of cas) → Writes (join (values_of settings digits cas prefix) codes) old out r
       → Writes (conditioned settings digits cas prefix) old out r
-  conditioned_writes w = rw conditioned_is at w
+  conditioned_writes e w = rw (e, conditioned_is) at w
 
 -- HOW A LOOP OVER THE CODES GOES ON
 
--- at `end`, the values before place i are written over the front of what was lent
-pub record JoiningOver (v : ℕ → List ℕ) (codes old : List ℕ) (i end : ℕ) (out : List ℕ) : Type 0 where
+-- at `end`, the values before those that are left are written over the front of what was lent, of the codes `all`
+pub record JoiningOver (v : ℕ → List ℕ) (all left old : List ℕ) (end : ℕ) (out : List ℕ) : Type 0 where
   pub done : List ℕ
   pub out_is : out ≡ written_over done old
   pub end_is : end ≡ length done
   pub inside : end ≤ length old
-  pub joins : done ++ join v (codes_of (drop i codes)) ≡ join v (codes_of codes)
+  pub joins : done ++ join v left ≡ join v all
 
-pub over_none : (v : ℕ → List ℕ) (codes old : List ℕ) → JoiningOver v codes old 0 0 old
-over_none v codes old = record { done = []; out_is = refl; end_is = refl; inside = omega arith; joins = refl }
+pub over_none : (v : ℕ → List ℕ) (all old : List ℕ) → JoiningOver v all all old 0 old
+over_none v all old = record { done = []; out_is = refl; end_is = refl; inside = omega arith; joins = refl }
 
-module _ {v : ℕ → List ℕ} {codes old out : List ℕ} {i end : ℕ} (g : JoiningOver v codes old i end out) where
+module _ {v : ℕ → List ℕ} {all left old out : List ℕ} {end : ℕ} (g : JoiningOver v all left old end out) where
   pub over_long : length out ≡ length old
   over_long = ap length g.out_is ∙ length_over g.done old (omega (arith, g.end_is, g.inside))
 
   -- none is left
-  pub over_all : codes_of (drop i codes) ≡ [] → Writes (join v (codes_of codes)) old out end
+  pub over_all : left ≡ [] → Writes (join v all) old out end
   over_all e =
-      let d : g.done ≡ join v (codes_of codes) = sym (append-nil g.done) ∙ (rw e at g.joins) in
+      let d : g.done ≡ join v all = sym (append-nil g.done) ∙ (rw e at g.joins) in
       record { written = g.out_is ∙ ap (λ (x : List ℕ). written_over x old) d; count = g.end_is ∙ ap length d }
 
-  module _ {f : ℕ} (e : codes_of (drop i codes) ≡ f ∷ codes_of (drop (i + 1) codes)) (value : List ℕ) (is : value ≡ v f) (room : length (join v (codes_of codes)) ≤ length old) where
-    next : g.done ++ (value ++ join v (codes_of (drop (i + 1) codes))) ≡ join v (codes_of codes)
+  module _ {f : ℕ} {later : List ℕ} (e : left ≡ f ∷ later) (value : List ℕ) (is : value ≡ v f) (room : length (join v all) ≤ length old) where
+    next : g.done ++ (value ++ join v later) ≡ join v all
     next = rw (e, ← is) at g.joins
 
     fits : end + length value ≤ length old
@@ -102,7 +102,7 @@ module _ {v : ℕ → List ℕ} {codes old out : List ℕ} {i end : ℕ} (g : Jo
 
     -- the value directly behind those before it
     pub over_more : (last : List ℕ) → last ≡ written_over value (mid_of end (length out - end) out)
-        → JoiningOver v codes old (i + 1) (end + length value) (put_mid end (length out - end) out last)
+        → JoiningOver v all later old (end + length value) (put_mid end (length out - end) out last)
     over_more last w =
         record {
           done = g.done ++ value;

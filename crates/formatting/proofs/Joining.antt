@@ -4,7 +4,7 @@ use mathlib.Core.Path.{◌≡◌, refl, sym, ap, subst, ◌∙◌}
 use mathlib.Core.Bool.{Bool, true, false, ◌||◌}
 use mathlib.Core.List.{List, [], ◌∷◌, ◌++◌, append_assoc, append-nil}
 use native.Mathlib.Omega.{arith}
-use lib.ListN.{length, take, drop, get_or, length-append}
+use lib.ListN.{length, take, get_or, length-append}
 use lib.Seq.{take-append-add, length-take-le}
 use lib.Dec.{T, leb, eqb}
 use borrow.Author.Tests.{eq-eqb, le-leb, lt-leb, leb-true, leb-false}
@@ -89,38 +89,38 @@ outgoing_after s digits cas prefix fas = rw (s.stage (codes_of fas))
 
 -- HOW A LOOP OVER THE CODES GOES ON
 
--- at `end`, the values before place i are written
-pub record Joining (v : ℕ → List ℕ) (fas : List ℕ) (i end : ℕ) (out : List ℕ) : Type 0 where
+-- at `end`, the values of the codes before those that are left are written, of the codes `all`
+pub record Joining (v : ℕ → List ℕ) (all left : List ℕ) (end : ℕ) (out : List ℕ) : Type 0 where
   pub inside : end ≤ length out
-  pub written : take end out ++ join v (codes_of (drop i fas)) ≡ join v (codes_of fas)
+  pub written : take end out ++ join v left ≡ join v all
 
-pub joining_none : (v : ℕ → List ℕ) (fas out : List ℕ) → Joining v fas 0 0 out
-joining_none v fas out = record { inside = omega arith; written = refl }
+pub joining_none : (v : ℕ → List ℕ) {all left : List ℕ} (out : List ℕ) → left ≡ all → Joining v all left 0 out
+joining_none v out e = record { inside = omega arith; written = ap (join v) e }
 
-module _ {v : ℕ → List ℕ} {fas out : List ℕ} {i end : ℕ} (g : Joining v fas i end out) (most : ℕ) where
+module _ {v : ℕ → List ℕ} {all left out : List ℕ} {end : ℕ} (g : Joining v all left end out) (most : ℕ) where
   front_long : length (take end out) ≡ end
   front_long = length-take-le end out g.inside
 
   -- none is left
-  pub joined : codes_of (drop i fas) ≡ [] → end ≤ most → JoinsInto (join v (codes_of fas)) most out end
+  pub joined : left ≡ [] → end ≤ most → JoinsInto (join v all) most out end
   joined e h =
-      let t : take end out ≡ join v (codes_of fas) = sym (append-nil (take end out)) ∙ (rw e at g.written) in
-      let l : length (join v (codes_of fas)) ≡ end = sym (ap length t) ∙ front_long in
+      let t : take end out ≡ join v all = sym (append-nil (take end out)) ∙ (rw e at g.written) in
+      let l : length (join v all) ≡ end = sym (ap length t) ∙ front_long in
       record { count = rw (l, le-leb end most h); digits = λ k. t }
 
-  module _ {f : ℕ} (e : codes_of (drop i fas) ≡ f ∷ codes_of (drop (i + 1) fas)) (n : ℕ) (n-is : n ≡ length (v f)) where
-    next : take end out ++ (v f ++ join v (codes_of (drop (i + 1) fas))) ≡ join v (codes_of fas)
+  module _ {f : ℕ} {later : List ℕ} (e : left ≡ f ∷ later) (n : ℕ) (n-is : n ≡ length (v f)) where
+    next : take end out ++ (v f ++ join v later) ≡ join v all
     next = rw e at g.written
 
     -- the next value is one too many
-    pub joined_long : most < end + n → (exit : List ℕ) → JoinsInto (join v (codes_of fas)) most exit (most + 1)
+    pub joined_long : most < end + n → (exit : List ℕ) → JoinsInto (join v all) most exit (most + 1)
     joined_long h exit =
-        let l : most < length (join v (codes_of fas)) = omega (arith, simp (length-append, front_long) at (ap length next)) in
-        record { count = rw (lt-leb (length (join v (codes_of fas))) most l); digits = λ k. absurd (omega arith) }
+        let l : most < length (join v all) = omega (arith, simp (length-append, front_long) at (ap length next)) in
+        record { count = rw (lt-leb (length (join v all)) most l); digits = λ k. absurd (omega arith) }
 
     -- the value directly behind those before it
     pub joining_more : (last : List ℕ) → end + n ≤ length out → length last ≡ length (mid_of end (length out - end) out) → take n last ≡ v f
-        → Joining v fas (i + 1) (end + n) (put_mid end (length out - end) out last)
+        → Joining v all later (end + n) (put_mid end (length out - end) out last)
     joining_more last room long t =
         let k : take (end + n) (take end out ++ last) ≡ take end out ++ take n last =
         ap (λ (m : ℕ). take (m + n) (take end out ++ last)) (sym front_long) ∙ take-append-add (take end out) last n in

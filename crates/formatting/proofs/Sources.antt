@@ -11,6 +11,7 @@ use Rattle.meaning.specs.Basics.{part, written_over}
 use Rattle.meaning.specs.Actions.{codes_of}
 use Rattle.meaning.specs.Services.{value_to_send}
 use Rattle.services.specs.declared.Served.{Served}
+use Rattle.conditioning.specs.declared.Marks.{Marks}
 use Rattle.buffer.proofs.ListLaws.{part_part}
 use Rattle.blocks.proofs.OverLaws.{array_behind, length_over}
 use Rattle.formatting.specs.Sources.{SOURCE-BYTES, settings_in, lookup_in, Formattable}
@@ -20,7 +21,7 @@ use Rattle.formatting.proofs.Places.{source_of, source_is, source_long, source_s
 use Rattle.formatting.proofs.Joining.{join_same, joins_as}
 
 -- bytes that are 0, with what values are taken from of a body over the front of them and the settings behind it
-module _ {settings body starts counts : List ℕ} (f : Formattable settings body starts counts) {after : List ℕ}
+module _ {settings body : List ℕ} {m : Marks} (f : Formattable settings body m) {after : List ℕ}
     (first : after ≡ written_over (take VALUE-BYTES body) (replicate SOURCE-BYTES 0)) (last : List ℕ)
     (second : last ≡ written_over (take SETTINGS-BYTES settings) (mid_of VALUE-BYTES (SOURCE-BYTES - VALUE-BYTES) after)) where
   abbrev source : List ℕ
@@ -37,7 +38,7 @@ module _ {settings body starts counts : List ℕ} (f : Formattable settings body
       array_behind (take VALUE-BYTES body) settings (replicate SOURCE-BYTES 0) VALUE-BYTES (SOURCE-BYTES - VALUE-BYTES) (omega arith) first (sym front_long) (omega (arith, f.settings_long)) last behind
       ∙ source_is settings (take VALUE-BYTES body) (replicate SOURCE-BYTES 0) f.settings_long front_long
 
-  pub table_made : Table source starts counts
+  pub table_made : Table source m
   table_made =
       record {
         long = ap length made_is ∙ source_long settings (take VALUE-BYTES body) (replicate SOURCE-BYTES 0) f.settings_long front_long refl;
@@ -58,14 +59,14 @@ module _ {settings body starts counts : List ℕ} (f : Formattable settings body
   lookup_is : lookup_in source ≡ lookup_in body
   lookup_is = part_is LOOKUP-AT LOOKUP-BYTES (omega arith)
 
-  value_is : (v : ℕ) → value_at source starts counts v ≡ value_at body starts counts v
-  value_is v = part_is (get_or starts v 0) (get_or counts v 0) (omega (arith, f.low v, f.few v))
+  value_is : (v : ℕ) → value_at source m v ≡ value_at body m v
+  value_is v = part_is (get_or m.starts v 0) (get_or m.counts v 0) (omega (arith, f.low v, f.few v))
 
   -- each value is the same in the source and in the body
-  values_same : (cas : List ℕ) (served : Served) (v : ℕ) → value_made (settings_in source) source cas starts counts served v ≡ value_made settings body cas starts counts served v
+  values_same : (cas : List ℕ) (served : Served) (v : ℕ) → value_made (settings_in source) source cas m served v ≡ value_made settings body cas m served v
   unfolding value_to_send conditioned_value
   values_same cas served v = rw (settings_is, lookup_is, value_is v)
 
-  pub joined_made : (cas : List ℕ) (served : Served) (fas : List ℕ) {out : List ℕ} {most r : ℕ} → JoinsInto (outgoing_by (settings_in source) source cas starts counts served fas) most out r
-      → JoinsInto (outgoing_by settings body cas starts counts served fas) most out r
+  pub joined_made : (cas : List ℕ) (served : Served) (fas : List ℕ) {out : List ℕ} {most r : ℕ} → JoinsInto (outgoing_by (settings_in source) source cas m served fas) most out r
+      → JoinsInto (outgoing_by settings body cas m served fas) most out r
   joined_made cas served fas j = joins_as (join_same _ _ (codes_of fas) (λ v t. values_same cas served v)) j

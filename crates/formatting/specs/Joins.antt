@@ -9,11 +9,12 @@ use Rattle.meaning.specs.Groups.{is_set}
 use Rattle.meaning.specs.Conditioning.{short, value_from, conditioned_from}
 use Rattle.meaning.specs.Services.{join}
 use Rattle.services.specs.declared.Served.{Served}
+use Rattle.conditioning.specs.declared.Marks.{Marks}
 use Rattle.formatting.specs.Tables.{value_made}
 
 -- the outgoing digits, joined by a table of what conditioning took of the number's digits; that they are document 01's is `marked_outgoing` in proofs/Tables.antt
-abbrev pub outgoing_by : List ℕ → List ℕ → List ℕ → List ℕ → List ℕ → Served → List ℕ → List ℕ
-outgoing_by settings body cas starts counts served fas = join (value_made settings body cas starts counts served) (codes_of fas)
+abbrev pub outgoing_by : List ℕ → List ℕ → List ℕ → Marks → Served → List ℕ → List ℕ
+outgoing_by settings body cas m served fas = join (value_made settings body cas m served) (codes_of fas)
 
 -- document 01's conditioned number
 unfoldable pub conditioned : List ℕ → List ℕ → List ℕ → ℕ → List ℕ

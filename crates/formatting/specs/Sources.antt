@@ -4,6 +4,7 @@ use Rattle.meaning.specs.Sizes.{DELIMITER-B-AT, SETTINGS-BYTES, DIALLED-DIGITS-A
 use Rattle.meaning.specs.Basics.{part, digits_of}
 use Rattle.std.specs.Prelude.{if◌then◌else◌}
 use Rattle.meaning.specs.declared.Span.{Span}
+use Rattle.conditioning.specs.declared.Marks.{Marks}
 use Rattle.conditioning.specs.Marks.{PLACES}
 
 -- the bytes of a source: behind the settings, room for a block that is taken whole
@@ -31,13 +32,13 @@ abbrev pub digits_if : Bool → List ℕ → List ℕ
 digits_if set s = if set then digits_of s else []
 
 -- the settings, a body, and a table of places within the body
-pub record Formattable (settings body starts counts : List ℕ) : Type 0 where
+pub record Formattable (settings body : List ℕ) (m : Marks) : Type 0 where
   pub settings_long : length settings ≡ SETTINGS-BYTES
   pub body_long : length body ≡ NUMBER-BYTES
-  pub starts_long : length starts ≡ PLACES
-  pub counts_long : length counts ≡ PLACES
-  pub low : (v : ℕ) → get_or starts v 0 ≤ LOOKUP-AT
-  pub few : (v : ℕ) → get_or counts v 0 ≤ 32
+  pub starts_long : length m.starts ≡ PLACES
+  pub counts_long : length m.counts ≡ PLACES
+  pub low : (v : ℕ) → get_or m.starts v 0 ≤ LOOKUP-AT
+  pub few : (v : ℕ) → get_or m.counts v 0 ≤ 32
 
 -- the place has room behind it for the two blocks that a value may take
 pub record Held (source : List ℕ) (r : Span) : Type 0 where

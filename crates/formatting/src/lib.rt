@@ -8,16 +8,15 @@ ghost use Rattle.meaning.specs.Settings.{settings_of, lookup_of};
 ghost use Rattle.meaning.specs.Actions.{LAST-CONDITIONED, RN as RN-CODE, cas_of, codes_of};
 ghost use Rattle.meaning.specs.Conditioning.{value_from};
 ghost use Rattle.meaning.specs.Services.{join};
-ghost use Rattle.conditioning.specs.Marks.{PLACES};
 ghost use Rattle.services.specs.Stages.{rn_of, sp_of};
 ghost use Rattle.formatting.specs.Sources.{SOURCE-BYTES, LAST-STRING, settings_in, lookup_in, digits_if, Formattable, Held, Lies};
 ghost use Rattle.formatting.specs.Tables.{Table, value_at, Has, place_of, sent_at, conditioned_value, served_over, value_made};
 ghost use Rattle.formatting.specs.Joins.{conditioned, conditioned_codes, outgoing_by, Conditionable, Writes, JoinsInto};
 
-use actions::{code_at, has_code, is_set};
+use actions::{codes_in, has_code, is_set};
 use blocks::copy_sixteen;
-use buffer::{copy, wide};
-use conditioning::stretch_in;
+use buffer::copy;
+use conditioning::{Marks, stretch_in};
 use meaning::Span;
 use meaning::ca::CCDEF;
 use meaning::fa::{AC, ASD, CC, DELIMITER_A, DELIMITER_B, DN, GRN, RN, SN, SP, ZN};
@@ -56,7 +55,7 @@ fn string_at(source: &[u8], at: usize, width: usize) -> Span
     requires { (at + width < length source.now) × (at ≤ LAST-STRING) × (width ≤ 32) }
     ensures { Lies (digits_of (part at (width + 1) source.now)) source.now result }
 {
-    let n = wide(source[at]);
+    let n = usize::from(source[at]);
     if width < n {
         return Span {
             start: at + 1,
@@ -112,10 +111,10 @@ fn service_value(source: &[u8], served: Served, f: u8) -> Span
     ensures { Lies (served_over (settings_in source.now) (lookup_in source.now) served (λ _. []) f) source.now result }
 {
     match f {
-        RN => routing_number(source, served.ported),
-        SP => service_provider(source, served.ported),
-        ASD => string_if(served.asd, source, ASD_STRING, 10),
-        GRN => string_if(served.grn, source, GRN_STRING, 10),
+        RN => routing_number(source, served.effect.ported),
+        SP => service_provider(source, served.effect.ported),
+        ASD => string_if(served.effect.asd, source, ASD_STRING, 10),
+        GRN => string_if(served.effect.grn, source, GRN_STRING, 10),
         DELIMITER_A => string_at(source, DELIMITER_A_STRING, 5),
         DELIMITER_B => string_at(source, DELIMITER_B_STRING, 5),
         _ => Span { start: 0, count: 0 },
@@ -128,54 +127,42 @@ fn service_value(source: &[u8], served: Served, f: u8) -> Span
 const CC_PLACE: usize = CC as usize;
 
 // Puts in the default country code where CCDEF sets CC to it.
-fn place_country(source: &[u8], cas: &[u8], starts: &mut [u8], counts: &mut [u8])
-    requires { Table source.now starts.old counts.old }
-    ensures { Has (conditioned_value (settings_in source.now) source.now cas.now starts.old counts.old) source.now starts.new counts.new }
+fn place_country(source: &[u8], cas: &[u8], marks: &mut Marks)
+    requires { Table source.now marks.old }
+    ensures { Has (conditioned_value (settings_in source.now) source.now cas.now marks.old) source.now marks.new }
 {
     if has_code(cas, CCDEF) {
-        let country = string_at(source, COUNTRY, 3);
-        starts[CC_PLACE] = country.start as u8;
-        counts[CC_PLACE] = country.count as u8;
+        marks.put(CC_PLACE, string_at(source, COUNTRY, 3));
     }
 }
 
 // Puts in the values behind those that conditioning sets.
-fn place_services(source: &[u8], served: Served, starts: &mut [u8], counts: &mut [u8])
-    requires { Table source.now starts.old counts.old }
-    ensures { Has (served_over (settings_in source.now) (lookup_in source.now) served (value_at source.now starts.old counts.old)) source.now starts.new counts.new }
+fn place_services(source: &[u8], served: Served, marks: &mut Marks)
+    requires { Table source.now marks.old }
+    ensures { Has (served_over (settings_in source.now) (lookup_in source.now) served (value_at source.now marks.old)) source.now marks.new }
 {
-    let mut f: u8 = RN;
-    while f <= DELIMITER_B {
-        let value = service_value(source, served, f);
-        let v = wide(f);
-        starts[v] = value.start as u8;
-        counts[v] = value.count as u8;
-        f += 1;
+    for f in RN..=DELIMITER_B {
+        marks.put(usize::from(f), service_value(source, served, f));
     }
 }
 
 // Puts in every value that conditioning does not take of the number.
-fn place_values(source: &[u8], cas: &[u8], served: Served, starts: &mut [u8], counts: &mut [u8])
-    requires { Table source.now starts.old counts.old }
-    ensures { Has (value_made (settings_in source.now) source.now cas.now starts.old counts.old served) source.now starts.new counts.new }
+fn place_values(source: &[u8], cas: &[u8], served: Served, marks: &mut Marks)
+    requires { Table source.now marks.old }
+    ensures { Has (value_made (settings_in source.now) source.now cas.now marks.old served) source.now marks.new }
 {
-    place_country(source, cas, starts, counts);
-    place_services(source, served, starts, counts);
+    place_country(source, cas, marks);
+    place_services(source, served, marks);
 }
 
 // Where the value that a formatting action sends lies.
-fn value_to_send(starts: &[u8], counts: &[u8], f: u8) -> Span
-    requires { (length starts.now ≡ PLACES) × (length counts.now ≡ PLACES) }
-    ensures { result ≡ place_of starts.now counts.now f }
+fn value_to_send(marks: &Marks, f: u8) -> Span
+    ensures { result ≡ place_of marks.now f }
 {
     if DELIMITER_B < f {
         return Span { start: 0, count: 0 };
     }
-    let v = wide(f);
-    Span {
-        start: wide(starts[v]),
-        count: wide(counts[v]),
-    }
+    marks.span(usize::from(f))
 }
 
 // JOINING
@@ -195,33 +182,21 @@ fn put_value(source: &[u8], value: Span, out: &mut [u8])
 
 // The values of the formatting actions by a table, each directly behind the one before, at the front of a buffer that has room for `most` digits and two blocks;
 // one more than `most` where they have more.
-fn join_placed(
-    source: &[u8],
-    starts: &[u8],
-    counts: &[u8],
-    fas: &[u8],
-    most: usize,
-    out: &mut [u8],
-) -> usize
-    requires { Table source.now starts.now counts.now × (most ≤ 35) × (most + 32 ≤ length out.old) }
-    ensures { JoinsInto (join (sent_at source.now starts.now counts.now) (codes_of fas.now)) most out.new result }
+fn join_placed(source: &[u8], marks: &Marks, fas: &[u8], most: usize, out: &mut [u8]) -> usize
+    requires { Table source.now marks.now × (most ≤ 35) × (most + 32 ≤ length out.old) }
+    ensures { JoinsInto (join (sent_at source.now marks.now) (codes_of fas.now)) most out.new result }
 {
     let mut end: usize = 0;
-    let mut i = 0;
-    loop {
-        let f = code_at(fas, i);
-        if f == 0 {
-            return end;
-        }
-        let value = value_to_send(starts, counts, f);
+    for f in codes_in(fas) {
+        let value = value_to_send(marks, f);
         let count = value.count;
         if most < end + count {
             return most + 1;
         }
         put_value(source, value, &mut out[end..]);
         end += count;
-        i += 1;
     }
+    end
 }
 
 // The same by a table that has what conditioning took of the number: CC by CCDEF, the values of the service actions and the delimiters are put in first.
@@ -230,16 +205,15 @@ fn join_values(
     cas: &[u8],
     served: Served,
     fas: &[u8],
-    starts: &mut [u8],
-    counts: &mut [u8],
+    marks: &mut Marks,
     most: usize,
     out: &mut [u8],
 ) -> usize
-    requires { Table source.now starts.old counts.old × (most ≤ 35) × (most + 32 ≤ length out.old) }
-    ensures { JoinsInto (outgoing_by (settings_in source.now) source.now cas.now starts.old counts.old served fas.now) most out.new result }
+    requires { Table source.now marks.old × (most ≤ 35) × (most + 32 ≤ length out.old) }
+    ensures { JoinsInto (outgoing_by (settings_in source.now) source.now cas.now marks.old served fas.now) most out.new result }
 {
-    place_values(source, cas, served, starts, counts);
-    join_placed(source, starts, counts, fas, most, out)
+    place_values(source, cas, served, marks);
+    join_placed(source, marks, fas, most, out)
 }
 
 // The outgoing digits of a number whose digits conditioning has marked: the values of the formatting actions, each directly behind the one before, at the front of a
@@ -250,33 +224,33 @@ pub fn join_outgoing(
     cas: &[u8],
     served: Served,
     fas: &[u8],
-    starts: &mut [u8],
-    counts: &mut [u8],
+    marks: &mut Marks,
     most: usize,
     out: &mut [u8],
 ) -> usize
-    requires { Formattable settings.now body.now starts.old counts.old × (most ≤ 35) × (most + 32 ≤ length out.old) }
-    ensures { JoinsInto (outgoing_by settings.now body.now cas.now starts.old counts.old served fas.now) most out.new result }
+    requires { Formattable settings.now body.now marks.old × (most ≤ 35) × (most + 32 ≤ length out.old) }
+    ensures { JoinsInto (outgoing_by settings.now body.now cas.now marks.old served fas.now) most out.new result }
 {
     let mut source = [0u8; SOURCE_BYTES];
     copy(&mut source, &body[0..VALUE_BYTES]);
     copy(&mut source[SETTINGS..], &settings[0..SETTINGS_BYTES]);
-    join_values(&source, cas, served, fas, starts, counts, most, out)
+    join_values(&source, cas, served, fas, marks, most, out)
 }
 
 // THE CONDITIONED NUMBER
 
-// The values that the conditioned number joins, by the international format that stands; 0 behind the last.
-fn conditioned_codes(cas: &[u8]) -> [u8; 3]
-    ensures { codes_of result ≡ conditioned_codes (cas_of cas.now) }
+// The values that the conditioned number joins, by the international format that stands.
+#[tactic(auto, unfolding(crate::specs::Joins::conditioned_codes))]
+fn conditioned_codes(cas: &[u8]) -> &'static [u8]
+    ensures { result.now ≡ conditioned_codes (cas_of cas.now) }
 {
     if is_set(cas, ZN) {
-        return [ZN, 0, 0];
+        return &[ZN];
     }
     if is_set(cas, DN) {
-        return [CC, DN, 0];
+        return &[CC, DN];
     }
-    [CC, AC, SN]
+    &[CC, AC, SN]
 }
 
 // The default country code.
@@ -284,7 +258,7 @@ fn country_of(settings: &[u8]) -> &[u8]
     requires { length settings.now ≡ SETTINGS-BYTES }
     ensures { result.now ≡ (settings_of settings.now).country }
 {
-    let n = wide(settings[COUNTRY_AT]);
+    let n = usize::from(settings[COUNTRY_AT]);
     let country = &settings[COUNTRY_DIGITS_AT..DFLTRN_AT];
     if n < country.len() {
         return &country[0..n];
@@ -320,17 +294,11 @@ pub fn write_conditioned<'a>(
     requires { Conditionable settings.now digits.now cas.now prefix × (length (conditioned settings.now digits.now cas.now prefix) ≤ length out.old) }
     ensures { Writes (conditioned settings.now digits.now cas.now prefix) out.old out.new result }
 {
-    let codes = conditioned_codes(cas);
     let mut end = 0;
-    let mut i = 0;
-    loop {
-        let v = code_at(&codes, i);
-        if v == 0 {
-            return end;
-        }
-        let value = conditioned_part(settings, digits, cas, prefix, v);
+    for v in conditioned_codes(cas) {
+        let value = conditioned_part(settings, digits, cas, prefix, *v);
         copy(&mut out[end..], value);
         end += value.len();
-        i += 1;
     }
+    end
 }

@@ -1,2 +1,2 @@
-pub mod Grouped
 pub mod Backed
+pub mod Falling

@@ -26,10 +26,10 @@ use Rattle.meaning.specs.Reads.{Read, read, Count, Listed, listed, listing, rule
 use Rattle.meaning.specs.Calls.{Call, open_plan, remove_set, body_length, is_cut, opened_rooms, set_number, lacks_bytes, refusal, after, put_in_from, refusals_from}
 use Rattle.meaning.specs.LookBack.{accepted, last_content}
 use Rattle.meaning.specs.History.{no_rule, removal, PutIn}
-use Rattle.meaning.specs.Answers.{refusal_of_written, bytes_written, count_of, place_chosen, rule_listed, span_of}
-use Rattle.meaning.specs.declared.Written.{Written}
-use Rattle.meaning.specs.declared.Counted.{Counted}
-use Rattle.meaning.specs.declared.Chosen.{Chosen}
+use Rattle.meaning.specs.Answers.{refusal_of_written, bytes_written, count_of, place_chosen, rule_given, rule_wanted, span_of}
+use Rattle.std.specs.Prelude.{Result, Option as Optional}
+use Rattle.meaning.specs.declared.Refusal.{Refusal}
+use Rattle.meaning.specs.declared.RulePlace.{RulePlace}
 use Rattle.meaning.proofs.Stretches.{value_small}
 use Rattle.meaning.proofs.Tests.{is_true, false_is, and_right, any_mem, none_counted}
 use Rattle.meaning.proofs.Soundness.{Sound, sound_of_lem, sound_parts, held_passes}
@@ -87,7 +87,7 @@ module _ (class : ℕ) (ds : List ℕ) (rs : List Rule) where
   none_fits (noneFits n) e = n
   none_fits (the_rule s b) e = absurd (let z : ◌≡◌ {A = ℕ} 0 1 = cc in omega arith)
 
-module _ (m : List ℕ) (sound-m : sound_of m ≡ true) (class : ℕ) (ds : List ℕ) (c : Chosen) (promised : ChoicePromise m class ds c) where
+module _ (m : List ℕ) (sound-m : sound_of m ≡ true) (class : ℕ) (ds : List ℕ) (c : Optional RulePlace) (promised : ChoicePromise m class ds c) where
   of_rules : Choice class ds (plan_of m).rules (chosen class ds (plan_of m).rules)
   of_rules = choice class ds (plan_of m).rules (sound_is m sound-m).plan.order
 
@@ -137,7 +137,7 @@ module _ (m : List ℕ) (p : Plan) (state : state_of m ≡ some p) (s : Sound p)
       record {
         count_is = λ r e. e ∙ ap rule_count state;
         few_rules = few_listed p s;
-        rule_is = λ k r e. e ∙ ap (λ (o : Option Plan). rule_listed (rule_at_place o k)) state;
+        rule_is = λ k r e. e ∙ ap (λ (o : Option Plan). rule_wanted (rule_at_place o k)) state;
         content_is = λ n out left r g.
             subst (λ (c : Option (List ℕ)). GivesRead (content_read (rooms_of (opened_rooms opening)).sets (length out) n c) out left r) (sets n)
             (subst (λ (b : List ℕ). GivesRead (content_read (rooms_of b).sets (length out) n (held p n)) out left r) rooms (given n out left r g));
@@ -155,7 +155,7 @@ module _ (m : List ℕ) (p : Plan) (state : state_of m ≡ some p) (s : Sound p)
         answer_is = λ body out left r g. subst (λ (o : Option Plan). GivesAnswer (answer o (length out) body) out left r) state g;
       }
     where
-      given : (n : ℕ) (out left : List ℕ) (r : Written) → ContentPromise m n out left r → GivesRead (set_content (some p) (length out) n) out left r
+      given : (n : ℕ) (out left : List ℕ) (r : Result ℕ Refusal) → ContentPromise m n out left r → GivesRead (set_content (some p) (length out) n) out left r
       given n out left r g = subst (λ (o : Option Plan). GivesRead (set_content o (length out) n) out left r) state g
 
 -- REMOVING A HELD SET
@@ -189,7 +189,7 @@ none_named n ls = (each, none_counts n ls)
 
 module _ (m : List ℕ) (p : Plan) (state : state_of m ≡ some p) (s : Sound p) where
   -- the count of rules naming a held set
-  counted : (n : ℕ) (c : Counted) → T (is_some (held p n)) → ReferrersPromise m n c → count_of c ≡ record { refusal = 0; number = referrers p n }
+  counted : (n : ℕ) (c : Result ℕ Refusal) → T (is_some (held p n)) → ReferrersPromise m n c → count_of c ≡ record { refusal = 0; number = referrers p n }
   counted n c t e = e ∙ (ap (λ (o : Option Plan). referrer_count o n) state ∙ rw (held_below p n s t, is_true (is_some (held p n)) t))
 
   -- an accepted removal takes the set out
@@ -250,7 +250,7 @@ joined_same read other ds e at (a ∷ xs) =
 
 module _ (m : List ℕ) (p : Plan) (state : state_of m ≡ some p) (s : Sound p) where
   conditions_as : (class : ℕ) (ds : List ℕ) (r : Rule) (content : List ℕ) → Conditions p class ds r content
-      → (out left : List ℕ) (w : Written) → DIGIT-ROOM ≤ length out → ConditionedPromise m class ds out left w → ConditionsAs m class ds r content w
+      → (out left : List ℕ) (w : Result ℕ Refusal) → DIGIT-ROOM ≤ length out → ConditionedPromise m class ds out left w → ConditionsAs m class ds r content w
   conditions_as class ds r content given out left w room g =
       let holds : NumberHolds p class ds r content (length out) = every_number p (sound_of_lem p s) class ds r content given (length out) room in
       let same : refusal_of_written w ≡ (conditioned (some p) (length out) class ds).refusal =

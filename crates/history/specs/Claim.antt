@@ -20,10 +20,10 @@ use Rattle.meaning.specs.Reads.{Count, Listed, listed, listing, listed_or, read,
 use Rattle.meaning.specs.Calls.{Call, open_plan, remove_set, opened_rooms, set_number, lacks_bytes, refusal, refusals_from}
 use Rattle.meaning.specs.LookBack.{accepted, last_content}
 use Rattle.meaning.specs.History.{PutIn}
-use Rattle.meaning.specs.Answers.{refusal_of_written, bytes_written, count_of, place_chosen, rule_listed, span_of}
-use Rattle.meaning.specs.declared.Written.{Written}
-use Rattle.meaning.specs.declared.Counted.{Counted}
-use Rattle.meaning.specs.declared.Chosen.{Chosen}
+use Rattle.meaning.specs.Answers.{refusal_of_written, bytes_written, count_of, place_chosen, rule_given, rule_wanted, span_of}
+use Rattle.std.specs.Prelude.{Result, Option as Optional}
+use Rattle.meaning.specs.declared.Refusal.{Refusal}
+use Rattle.meaning.specs.declared.RulePlace.{RulePlace}
 use Rattle.meaning.specs.declared.Answered.{Answered}
 use Rattle.meaning.specs.declared.Span.{Span}
 use Rattle.meaning.specs.declared.ListedRule.{ListedRule}
@@ -38,7 +38,7 @@ use Rattle.history.specs.Replays.{Replays, calls_in}
 
 -- THE CHOICE AMONG WHAT WAS PUT IN, answered with c: "A rule is found exactly when some filter fits, and it is the most specific one that fits"
 
-pub record ChoosesAs (class : ℕ) (ds : List ℕ) (p : Plan) (c : Chosen) : Type 0 where
+pub record ChoosesAs (class : ℕ) (ds : List ℕ) (p : Plan) (c : Optional RulePlace) : Type 0 where
   -- at the place answered stands the choice, among the rules and in the listing
   pub found : (k : ℕ) → place_chosen c ≡ some k
       → (r : Rule) × (get_elem? p.rules k ≡ some r) × (get_elem? (listing p) k ≡ some (listed r)) × IsChoice class ds p.rules r
@@ -52,24 +52,24 @@ naming n ls = count (λ (l : Listed). eqb l.set n) ls
 
 pub record ReadsAs (m : List ℕ) (opening : List ℕ) (past : List Call) (p : Plan) : Type 0 where
   -- "the listing and its count"
-  pub count_is : (r : Counted) → CountPromise m r → count_of r ≡ record { refusal = 0; number = length (listing p) }
+  pub count_is : (r : Result ℕ Refusal) → CountPromise m r → count_of r ≡ record { refusal = 0; number = length (listing p) }
   pub few_rules : length (listing p) ≤ 4096
-  pub rule_is : (k : ℕ) (r : ListedRule) → ListedPromise m k r → r ≡ rule_listed (listed_or (get_elem? (listing p) k))
+  pub rule_is : (k : ℕ) (r : Result ListedRule Refusal) → ListedPromise m k r → rule_given r ≡ rule_wanted (listed_or (get_elem? (listing p) k))
   -- "what the four read calls give": a set's content as last accepted for it, and how many listed rules name it
-  pub content_is : (n : ℕ) (out left : List ℕ) (r : Written) → ContentPromise m n out left r
+  pub content_is : (n : ℕ) (out left : List ℕ) (r : Result ℕ Refusal) → ContentPromise m n out left r
       → GivesRead (content_read (rooms_of (opened_rooms opening)).sets (length out) n (last_content n past)) out left r
   -- a set that the calls hold reads back
-  pub reads_back : (n : ℕ) (content out left : List ℕ) (r : Written) → last_content n past ≡ some content → SET-BODY ≤ length out → ContentPromise m n out left r
+  pub reads_back : (n : ℕ) (content out left : List ℕ) (r : Result ℕ Refusal) → last_content n past ≡ some content → SET-BODY ≤ length out → ContentPromise m n out left r
       → GivesRead (read (n / 256 ∷ n % 256 ∷ content)) out left r
-  pub referrers_are : (n : ℕ) (r : Counted) → ReferrersPromise m n r
+  pub referrers_are : (n : ℕ) (r : Result ℕ Refusal) → ReferrersPromise m n r
       → count_of r ≡ count_read (rooms_of (opened_rooms opening)).sets n (last_content n past) (naming n (listing p))
-  pub conditioned_is : (class : ℕ) (ds out left : List ℕ) (r : Written) → ConditionedPromise m class ds out left r
+  pub conditioned_is : (class : ℕ) (ds out left : List ℕ) (r : Result ℕ Refusal) → ConditionedPromise m class ds out left r
       → GivesRead (conditioned (some p) (length out) class ds) out left r
   pub span_is : (class : ℕ) (ds : List ℕ) (v : ℕ) (r : Span) → SpanPromise m class ds v r → r ≡ span_of (stretch (some p) class ds v)
   pub stretch_is : (class : ℕ) (ds : List ℕ) (at : ℕ × ℕ) (v : ℕ) (part : List ℕ) (part_at : ℕ × ℕ) → StretchPromise m class ds at v part part_at
       → GivesStretch (stretch (some p) class ds v) ds at part part_at
   -- "the choice and every number's answer, refusals included"
-  pub choice_is : (class : ℕ) (ds : List ℕ) (c : Chosen) → ChoicePromise m class ds c → ChoosesAs class ds p c
+  pub choice_is : (class : ℕ) (ds : List ℕ) (c : Optional RulePlace) → ChoicePromise m class ds c → ChoosesAs class ds p c
   pub answer_is : (body out left : List ℕ) (r : Answered) → AnswerPromise m body out left r
       → GivesAnswer (answer (some p) (length out) body) out left r
 
@@ -79,7 +79,7 @@ pub record Removes (m left : List ℕ) (p : Plan) (n r : ℕ) : Type 0 where
   -- "can be removed exactly when no rule names it"
   pub no_rule_lem : (r ≡ 0) ↔ ((l : Listed) → Memᴰ l (listing p) → l.set ≢ n)
   -- which is exactly when the count of rules naming it is 0
-  pub none_counted : (c : Counted) → ReferrersPromise m n c → (r ≡ 0) ↔ (count_of c ≡ record { refusal = 0; number = 0 })
+  pub none_counted : (c : Result ℕ Refusal) → ReferrersPromise m n c → (r ≡ 0) ↔ (count_of c ≡ record { refusal = 0; number = 0 })
   pub in_use : (r ≡ 0) ⊎ (r ≡ IN-USE)
   -- it is gone then, and nothing else; else nothing is changed
   pub gone : r ≡ 0 → state_of left ≡ some (with_slot n none p)
@@ -91,7 +91,7 @@ pub record Removes (m left : List ℕ) (p : Plan) (n r : ℕ) : Type 0 where
 abbrev pub stretch_given : Span → Stretch
 stretch_given s = stretch_at s.start s.count
 
-pub record ConditionsAs (m : List ℕ) (class : ℕ) (ds : List ℕ) (r : Rule) (content : List ℕ) (w : Written) : Type 0 where
+pub record ConditionsAs (m : List ℕ) (class : ℕ) (ds : List ℕ) (r : Rule) (content : List ℕ) (w : Result ℕ Refusal) : Type 0 where
   -- "the only refusal in conditioning is SHORT"
   pub only_short : (refusal_of_written w ≡ 0) ⊎ (refusal_of_written w ≡ SHORT)
   -- "It comes exactly when the rule's length is a wildcard and the number is no longer than document 01's sum F"
@@ -130,7 +130,7 @@ pub record Claim (size : ℕ) (cs : List Call) (numbers m : List ℕ) : Type 0 w
       → Provides (calls remove_set b) m left r → Removes m left put_in_lem.plan (set_number b) r
   -- "for any number that RANGE doesn't refuse and whose chosen rule has conditioning actions"
   pub conditions : (class : ℕ) (ds : List ℕ) (r : Rule) (content : List ℕ) → Conditions put_in_lem.plan class ds r content
-      → (out left : List ℕ) (w : Written) → DIGIT-ROOM ≤ length out → ConditionedPromise m class ds out left w → ConditionsAs m class ds r content w
+      → (out left : List ℕ) (w : Result ℕ Refusal) → DIGIT-ROOM ≤ length out → ConditionedPromise m class ds out left w → ConditionsAs m class ds r content w
 
 -- DEMAND 3: "any list of calls .., refused ones included, all on one plan memory and beginning with an accepted opening. Each call gets the plan as
 -- the last one left it"

@@ -5,7 +5,7 @@ ghost use Rattle.std.specs.Prelude.{◌≡◌, ◌≤◌, drop};
 ghost use Rattle.history.specs.Replays.{Replays};
 ghost use Rattle.history.specs.Parts.{begins_whole};
 
-use meaning::kinds;
+use meaning::{answer_number, kinds};
 
 // Whether a whole record of a call begins at `at`.
 fn is_whole(calls: &[u8], at: usize) -> bool
@@ -15,11 +15,8 @@ fn is_whole(calls: &[u8], at: usize) -> bool
         return false;
     }
     let kind = calls[at];
-    if !kinds::is_call(kind) {
-        return false;
-    }
     let body = at + 1;
-    kinds::body_length(kind) <= calls.len() - body
+    kinds::is_call(kind) && kinds::body_length(kind) <= calls.len() - body
 }
 
 // Runs the calls that a list of house records holds, on one plan memory, and writes the number of each. It ends before the first byte that is no kind of a
@@ -27,18 +24,16 @@ fn is_whole(calls: &[u8], at: usize) -> bool
 pub fn replay(plan: &mut [u8], calls: &[u8], numbers: &mut [u8]) -> usize
     ensures { Replays plan.old calls.now numbers.old plan.new numbers.new result }
 {
-    let mut done: usize = 0;
     let mut at: usize = 0;
-    while done < numbers.len() {
+    for done in 0..numbers.len() {
         if !is_whole(calls, at) {
             return done;
         }
         let kind = calls[at];
         let body = at + 1;
         let end = body + kinds::body_length(kind);
-        numbers[done] = provision::carry_out(plan, kind, &calls[body..end]).number();
+        numbers[done] = answer_number(provision::carry_out(plan, kind, &calls[body..end]));
         at = end;
-        done += 1;
     }
-    done
+    numbers.len()
 }

@@ -3,18 +3,11 @@ use Prim.Native.Nat.{ℕ, ◌≤◌}
 use mathlib.Core.Path.{◌≡◌}
 use mathlib.Core.List.{List}
 use native.Mathlib.Omega.{arith}
-use lib.IntN.{ℤ, pos}
-use mir.Syntax.{w64}
-use mir.Val.{to_z}
-use mir.ValLaws.{to_z_pos}
+use lib.IntN.{ℤ}
 use Rattle.meaning.specs.Ledger.{LEDGER-LIMIT, UNIT-LIMIT, ledger_of, totals_at, plus, with_totals, entered}
 use Rattle.meaning.specs.declared.Totals.{Totals}
 use Rattle.meaning.proofs.Ledgers.{Natural, whole_natural, district_natural}
 use Rattle.ledger.specs.Entries.{entry_for, Enterable, Addable}
-
--- the units of a record as a signed number
-pub units_is : (n : ℕ) → n ≤ UNIT-LIMIT → to_z w64 n ≡ pos n
-units_is n h = to_z_pos w64 n (omega arith)
 
 natural_addable : (t : Totals) (most due billed : ℕ) → Natural most t → most ≤ LEDGER-LIMIT → due ≤ UNIT-LIMIT → billed ≤ UNIT-LIMIT → Addable t due billed
 natural_addable t most due billed n h d b =

@@ -1,4 +1,3 @@
 pub mod Ranges
 pub mod Entering
 pub mod Losses
-pub mod Clearing

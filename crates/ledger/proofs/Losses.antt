@@ -1,21 +1,20 @@
--- The loss of sums that are in range, its one rounding as the code divides, and the districts that have records.
-use Prim.Native.Nat.{ℕ, zero, suc, ◌+◌, ◌-◌, ◌/◌, ◌≤◌, ◌<◌}
-use mathlib.Core.Path.{◌≡◌, refl, sym}
-use mathlib.Core.Bool.{Bool, true, false, ◌&&◌, not, cond}
-use mathlib.Core.Option.{Option, none, some}
+-- The one rounding as the code divides, sums whose loss fits, and the first district that has records.
+use Prim.Native.Nat.{ℕ, zero, suc, ◌+◌, ◌-◌, ◌≤◌, ◌<◌}
+use mathlib.Core.Path.{◌≡◌, refl, sym, ap, ◌∙◌}
+use mathlib.Core.Bool.{Bool, true, false, cond}
 use mathlib.Core.List.{List}
 use native.Mathlib.Omega.{arith}
-use borrow.Author.Tests.{leb-true, le-leb, ltb-true, le-ltb, lt-ltb}
-use lib.Dec.{ltb}
-use lib.IntN.{ℤ, pos, negsuc, neg_ℤ, sub_ℕ, ◌+ℤ◌, ◌-ℤ◌}
+use borrow.Author.Tests.{le-leb, ltb-true}
+use Rattle.std.proofs.lemmas.Int.{ints}
+use lib.IntN.{ℤ, pos, negsuc, ◌+ℤ◌, ◌-ℤ◌}
 use lib.Signed.{le_z, lt_z, mag, quot_z}
 use mir.Syntax.{w64}
 use mir.Val.{SFits}
 use Rattle.meaning.specs.Sizes.{DISTRICTS}
-use Rattle.std.specs.Prelude.{if◌then◌else◌}
-use Rattle.meaning.specs.Refusals.{RANGE}
-use Rattle.meaning.specs.Ledger.{LEDGER-LIMIT, ledger_of, totals_at, ledger_in_range, cents, loss_in, has_records, loss_read, total_read}
-use Rattle.meaning.specs.declared.Loss.{Loss}
+use Rattle.std.specs.Prelude.{if◌then◌else◌, unwrap_or, option_map, Some, None}
+use Rattle.std.specs.Prelude.{Option as Found}
+use Rattle.std.specs.List.{find, range_with_len}
+use Rattle.meaning.specs.Ledger.{LEDGER-LIMIT, ledger_of, totals_at, ledger_in_range, cents, has_records}
 use Rattle.meaning.specs.declared.Totals.{Totals}
 use Rattle.meaning.proofs.Ledgers.{Natural, true_false, whole_natural, district_natural}
 use Rattle.ledger.specs.Losses.{SUM-LIMIT, Sized, SizedLoss, next_from}
@@ -32,40 +31,13 @@ unfolding cents
 cents_pos (pos n) e = refl
 cents_pos (negsuc n) e = true_false true refl e
 
-neg_mag : (q b : ℕ) → q ≤ b → mag (neg_ℤ (pos q)) ≤ b
-neg_mag zero b h = omega arith
-neg_mag (suc q) b h = omega arith
-
-pub quot_fits : (y : ℤ) → SFits w64 y → SFits w64 (quot_z y (pos 60000))
-quot_fits (pos n) h = let p = h.sfits in omega arith
-quot_fits (negsuc n) h = let p = h.sfits in omega (arith, neg_mag (suc n / 60000) n (omega arith))
-
--- room for half a cent on either side
-pub half_up : (x : ℤ) → SizedLoss x → lt_z x (pos 0) ≡ false → SFits w64 (x +ℤ pos 30000)
-half_up (pos n) h e = let p = h.size in record { sfits = omega arith }
-half_up (negsuc n) h e = true_false true refl e
-
-pub half_down : (x : ℤ) → SizedLoss x → lt_z x (pos 0) ≡ true → SFits w64 (x -ℤ pos 30000)
-half_down (pos n) h e = absurd (omega (arith, ltb-true n 0 e))
-half_down (negsuc n) h e = let p = h.size in record { sfits = omega arith }
-
 -- DUE LESS BILLED
 
-sub_mag : (m k b : ℕ) → m ≤ b → k ≤ b → mag (sub_ℕ m k) ≤ b
-sub_mag m k b hm hk = go (ltb m k)
-  where
-    go : (t : Bool) → mag (cond t (negsuc (k - suc m)) (pos (m - k))) ≤ b
-    go true = omega arith
-    go false = omega arith
-
-loss_size : (a b : ℤ) → le_z (pos 0) a ≡ true → le_z a (pos SUM-LIMIT) ≡ true → le_z (pos 0) b ≡ true → le_z b (pos SUM-LIMIT) ≡ true → SizedLoss (a -ℤ b)
-loss_size (pos m) (pos zero) la ha lb hb = record { size = let p = leb-true m SUM-LIMIT ha in omega arith }
-loss_size (pos m) (pos (suc k)) la ha lb hb = record { size = sub_mag m (suc k) SUM-LIMIT (leb-true m SUM-LIMIT ha) (leb-true (suc k) SUM-LIMIT hb) }
-loss_size (pos m) (negsuc k) la ha lb hb = true_false true refl (sym lb)
-loss_size (negsuc m) b la ha lb hb = true_false true refl (sym la)
+loss_size : (a b : ℤ) → le_z (pos 0) a ≡ true → le_z a (pos SUM-LIMIT) ≡ true → le_z (pos 0) b ≡ true → le_z b (pos SUM-LIMIT) ≡ true → mag (a -ℤ b) ≤ SUM-LIMIT
+loss_size a b la ha lb hb = grind (arith, ints)
 
 pub loss_sized : (t : Totals) → Sized t → SizedLoss (t.due -ℤ t.billed)
-loss_sized t s = loss_size t.due t.billed s.due_low s.due_high s.billed_low s.billed_high
+loss_sized t s = record { size = loss_size t.due t.billed s.due_low s.due_high s.billed_low s.billed_high }
 
 pub sized_fits : (x : ℤ) → SizedLoss x → SFits w64 x
 sized_fits x h = let p = h.size in record { sfits = omega arith }
@@ -90,61 +62,26 @@ module _ (ns : List ℤ) (whole : Totals) (e : ledger_in_range (ledger_of ns who
       let w = whole_natural (ledger_of ns whole) e in
       rw q (natural_sized (totals_at ns d) w.records (district_natural (ledger_of ns whole) e d h) w.few)
 
--- READING A LOSS
+-- THE NEXT DISTRICT
 
-module _ (t : Totals) (r : Loss) where
-  abbrev pub IsLoss : Type 0
-  IsLoss = loss_in t ≡ (r.units, r.cents)
+next_listed : (ns : List ℤ) (d n : ℕ) → unwrap_or (find (λ k. has_records (totals_at ns k)) (range_with_len d n)) (d + n) ≡ next_from ns d n
+next_listed ns d zero = omega arith
+next_listed ns d (suc n) = go (has_records (totals_at ns d)) (next_listed ns (d + 1) n)
+  where
+    rest : Found ℕ
+    rest = find (λ k. has_records (totals_at ns k)) (range_with_len (d + 1) n)
 
-pub loss_is : (t : Totals) (c : ℤ) → c ≡ cents (t.due -ℤ t.billed) → loss_in t ≡ (t.due -ℤ t.billed, c)
-unfolding loss_in
-loss_is t c e = rw e
+    go : (b : Bool) → unwrap_or rest (d + 1 + n) ≡ next_from ns (d + 1) n → unwrap_or (cond b (Some d) rest) (d + suc n) ≡ (if b then d else next_from ns (d + 1) n)
+    go true ih = refl
+    go false ih = let z : d + suc n ≡ d + 1 + n = omega arith in rw z ih
 
-module _ (ns : List ℤ) (whole : Totals) (d : ℕ) where
-  abbrev Answer : ℕ × Option (ℤ × ℤ) → Type 0
-  Answer a = a ≡ loss_read (ledger_of ns whole) d
+found_is : (r : Found ℕ) → option_map (λ x. x) r ≡ r
+found_is None = refl
+found_is (Some k) = refl
 
-  pub far_district : DISTRICTS ≤ d → Answer (RANGE, none)
-  unfolding loss_read
-  far_district h = rw (le-ltb d DISTRICTS h)
-
-  pub ledger_out : ledger_in_range (ledger_of ns whole) ≡ false → Answer (RANGE, none)
-  unfolding loss_read
-  ledger_out f = rw f (go (ltb d DISTRICTS))
-    where
-      go : (b : Bool) → ◌≡◌ {A = ℕ × Option (ℤ × ℤ)} (RANGE, none) (if not (b && false) then (RANGE, none) else if has_records (totals_at ns d) then (0, some (loss_in (totals_at ns d))) else (0, none))
-      go true = refl
-      go false = refl
-
-  module _ (h : d < DISTRICTS) (e : ledger_in_range (ledger_of ns whole) ≡ true) (t : Totals) (q : t ≡ totals_at ns d) where
-    pub no_records : has_records t ≡ false → Answer (0, none)
-    unfolding loss_read
-    no_records f = let g : has_records (totals_at ns d) ≡ false = rw q at f in rw (lt-ltb d DISTRICTS h, e, g)
-
-    pub district_answer : has_records t ≡ true → (r : Loss) → IsLoss t r → Answer (0, some (r.units, r.cents))
-    unfolding loss_read
-    district_answer f r is =
-        let g : has_records (totals_at ns d) ≡ true = rw q at f in
-        let i : IsLoss (totals_at ns d) r = rw q at is in
-        rw (lt-ltb d DISTRICTS h, e, g, i)
-
-module _ (ns : List ℤ) (whole : Totals) where
-  pub total_out : ledger_in_range (ledger_of ns whole) ≡ false → (RANGE, none) ≡ total_read (ledger_of ns whole)
-  unfolding total_read
-  total_out f = rw f
-
-  pub total_answer : ledger_in_range (ledger_of ns whole) ≡ true → (r : Loss) → IsLoss whole r → (0, some (r.units, r.cents)) ≡ total_read (ledger_of ns whole)
-  unfolding total_read
-  total_answer e r is = rw (e, is)
-
--- THE NEXT DISTRICT: what is left decides
-
-module _ (ns : List ℤ) (d : ℕ) where
-  pub next_here : d < DISTRICTS → has_records (totals_at ns d) ≡ true → d ≡ next_from ns d (DISTRICTS - d)
-  next_here h e = let n : DISTRICTS - d ≡ suc (DISTRICTS - (d + 1)) = omega arith in rw (n, e)
-
-  pub next_goes : d < DISTRICTS → has_records (totals_at ns d) ≡ false → next_from ns d (DISTRICTS - d) ≡ next_from ns (d + 1) (DISTRICTS - (d + 1))
-  next_goes h e = let n : DISTRICTS - d ≡ suc (DISTRICTS - (d + 1)) = omega arith in rw (n, e)
-
-  pub next_end : DISTRICTS ≤ d → d ≡ next_from ns d (DISTRICTS - d)
-  next_end h = let n : DISTRICTS - d ≡ 0 = omega arith in rw n
+-- what `find` gives of the districts from `from` to `to`, or the one behind them
+pub next_found : (ns : List ℤ) (from to : ℕ) → from ≤ to → (r : Found ℕ) (d : ℕ) → option_map (λ x. x) r ≡ find (λ k. has_records (totals_at ns k)) (range_with_len from (to - from)) → d ≡ unwrap_or r to → d ≡ next_from ns from (to - from)
+next_found ns from to h r d f u =
+    let z : to ≡ from + (to - from) = omega arith in
+    let rest : Found ℕ = find (λ k. has_records (totals_at ns k)) (range_with_len from (to - from)) in
+    u ∙ ap (λ o. unwrap_or o to) (sym (found_is r) ∙ f) ∙ ap (unwrap_or rest) z ∙ next_listed ns from (to - from)

@@ -1,7 +1,7 @@
 // The ledger: its range, one record more, and the loss of a district and of the whole.
 #![tactic(auto)]
 
-ghost use Rattle.std.specs.Prelude.{◌≡◌, true, ◌-◌, ◌≤◌, ◌<◌, pos, length, replicate};
+ghost use Rattle.std.specs.Prelude.{◌≡◌, true, ◌*◌, ◌-◌, ◌≤◌, ◌<◌, pos, length, replicate};
 ghost use Rattle.std.specs.Int.Signed.{le_z};
 ghost use Rattle.meaning.specs.Sizes.{DISTRICTS as DISTRICT-COUNT};
 ghost use Rattle.meaning.specs.Ledger.{LEDGER-LIMIT, ledger_of, totals_at, sum_in_range, totals_in_range, districts_in_range, ledger_in_range, plus, with_totals, entered, cents, loss_in, has_records, loss_read, total_read};
@@ -10,7 +10,7 @@ ghost use Rattle.ledger.specs.Entries.{entry_for, Enterable, Addable};
 ghost use Rattle.ledger.specs.Losses.{Sized, SizedLoss, next_from};
 
 use meaning::sizes::{DISTRICTS, LEDGER_NUMBERS};
-use meaning::{Loss, LossAnswer, Refusal, Totals};
+use meaning::{Loss, Refusal, Totals};
 
 // The records that a ledger takes.
 pub const LEDGER_LIMIT: i64 = 10000000;
@@ -25,32 +25,29 @@ pub const CENT: i64 = 60000;
 pub const HALF_CENT: i64 = 30000;
 
 // Whether a due or billed sum is from 0 to the count beside it times the most units of a record.
+#[tactic(auto, unfolding(meaning::specs::Ledger::sum_in_range), using(crate::proofs::Ranges::no_count, crate::proofs::Ranges::times_fits))]
 fn sum_in_range(count: i64, sum: i64) -> bool
     requires { le_z count (pos LEDGER-LIMIT) ≡ true }
     ensures { result ≡ sum_in_range count sum }
 {
-    if count < 0 {
-        return false;
-    }
-    if sum < 0 {
-        return false;
-    }
-    sum <= count * UNIT_LIMIT
+    0 <= count && 0 <= sum && sum <= count * UNIT_LIMIT
 }
 
 // The range of totals whose count may be no more than `most`.
+#[tactic(auto, unfolding(meaning::specs::Ledger::totals_in_range))]
 fn totals_in_range(most: i64, t: Totals) -> bool
     requires { le_z most (pos LEDGER-LIMIT) ≡ true }
     ensures { result ≡ totals_in_range most t }
 {
-    let count = t.count;
-    if most < count {
-        return false;
-    }
-    if !sum_in_range(count, t.due) {
-        return false;
-    }
-    sum_in_range(count, t.billed)
+    t.count <= most && sum_in_range(t.count, t.due) && sum_in_range(t.count, t.billed)
+}
+
+// Where a district's count stands: its due and billed are behind it.
+fn place(district: usize) -> usize
+    requires { district < DISTRICT-COUNT }
+    ensures { result ≡ 3 * district }
+{
+    3 * district
 }
 
 // What a ledger holds of a district.
@@ -58,16 +55,11 @@ pub fn totals_at(districts: &[i64; LEDGER_NUMBERS], district: usize) -> Totals
     requires { district < DISTRICT-COUNT }
     ensures { result ≡ totals_at districts.now district }
 {
-    let i = 3 * district;
-    let j = i + 1;
-    let k = i + 2;
-    let count = districts[i];
-    let due = districts[j];
-    let billed = districts[k];
+    let i = place(district);
     Totals {
-        count: count,
-        due: due,
-        billed: billed,
+        count: districts[i],
+        due: districts[i + 1],
+        billed: districts[i + 2],
     }
 }
 
@@ -76,24 +68,15 @@ fn districts_in_range(districts: &[i64; LEDGER_NUMBERS], most: i64) -> bool
     requires { le_z most (pos LEDGER-LIMIT) ≡ true }
     ensures { result ≡ districts_in_range most districts.now 0 DISTRICT-COUNT }
 {
-    let mut d: usize = 0;
-    while d < DISTRICTS {
-        if !totals_in_range(most, totals_at(districts, d)) {
-            return false;
-        }
-        d += 1;
-    }
-    true
+    (0..DISTRICTS).all(|d| totals_in_range(most, totals_at(districts, d)))
 }
 
 // The range of a lent ledger.
+#[tactic(auto, using(crate::proofs::Ranges::whole_out, crate::proofs::Ranges::count_limit))]
 pub fn in_range(districts: &[i64; LEDGER_NUMBERS], whole: Totals) -> bool
     ensures { result ≡ ledger_in_range (ledger_of districts.now whole) }
 {
-    if !totals_in_range(LEDGER_LIMIT, whole) {
-        return false;
-    }
-    districts_in_range(districts, whole.count)
+    totals_in_range(LEDGER_LIMIT, whole) && districts_in_range(districts, whole.count)
 }
 
 // Whether a ledger takes no record more.
@@ -104,33 +87,28 @@ pub fn is_full(whole: Totals) -> bool
 }
 
 // One record more.
+#[tactic(auto, unfolding(meaning::specs::Ledger::plus))]
 fn plus(t: Totals, due: usize, billed: usize) -> Totals
     requires { Addable t due billed }
     ensures { result ≡ plus (entry_for 0 due billed) t }
 {
-    let d = due as i64;
-    let b = billed as i64;
     Totals {
         count: t.count + 1,
-        due: t.due + d,
-        billed: t.billed + b,
+        due: t.due + due as i64,
+        billed: t.billed + billed as i64,
     }
 }
 
 // A district's totals put in their places.
+#[tactic(auto, unfolding(meaning::specs::Ledger::with_totals))]
 fn put_totals(districts: &mut [i64; LEDGER_NUMBERS], district: usize, t: Totals)
     requires { district < DISTRICT-COUNT }
     ensures { districts.new ≡ with_totals district t districts.old }
 {
-    let i = 3 * district;
-    let j = i + 1;
-    let k = i + 2;
-    let count = t.count;
-    let due = t.due;
-    let billed = t.billed;
-    districts[i] = count;
-    districts[j] = due;
-    districts[k] = billed;
+    let i = place(district);
+    districts[i] = t.count;
+    districts[i + 1] = t.due;
+    districts[i + 2] = t.billed;
 }
 
 // One record on its district and on the whole.
@@ -150,6 +128,7 @@ pub fn enter(
 }
 
 // Whole cents of a loss in units, halves away from zero.
+#[tactic(auto, using(crate::proofs::Losses::cents_neg, crate::proofs::Losses::cents_pos))]
 fn cents(units: i64) -> i64
     requires { SizedLoss units }
     ensures { result ≡ cents units }
@@ -162,13 +141,14 @@ fn cents(units: i64) -> i64
 }
 
 // The loss: due less billed, below zero where we were overcharged, and rounded once.
+#[tactic(auto, unfolding(meaning::specs::Ledger::loss_in))]
 pub fn loss_of(t: Totals) -> Loss
     requires { Sized t }
     ensures { loss_in t ≡ (result.units, result.cents) }
 {
     let units = t.due - t.billed;
     Loss {
-        units: units,
+        units,
         cents: cents(units),
     }
 }
@@ -181,31 +161,34 @@ fn has_records(t: Totals) -> bool
 }
 
 // The loss of a district of a lent ledger.
-pub fn district_loss(districts: &[i64; LEDGER_NUMBERS], whole: Totals, district: u16) -> LossAnswer
+#[tactic(auto, unfolding(meaning::specs::Ledger::loss_read))]
+pub fn district_loss(
+    districts: &[i64; LEDGER_NUMBERS],
+    whole: Totals,
+    district: u16,
+) -> Result<Option<Loss>, Refusal>
     ensures { loss_given result ≡ loss_read (ledger_of districts.now whole) district }
 {
-    let d = district as usize;
-    if DISTRICTS <= d {
-        return LossAnswer::Refused(Refusal::Range);
-    }
-    if !in_range(districts, whole) {
-        return LossAnswer::Refused(Refusal::Range);
+    let d = usize::from(district);
+    if DISTRICTS <= d || !in_range(districts, whole) {
+        return Err(Refusal::Range);
     }
     let t = totals_at(districts, d);
     if !has_records(t) {
-        return LossAnswer::NoRecords;
+        return Ok(None);
     }
-    LossAnswer::Loss(loss_of(t))
+    Ok(Some(loss_of(t)))
 }
 
 // The loss of a whole lent ledger.
-pub fn total_loss(districts: &[i64; LEDGER_NUMBERS], whole: Totals) -> LossAnswer
+#[tactic(auto, unfolding(meaning::specs::Ledger::total_read), using(crate::proofs::Losses::whole_sized))]
+pub fn total_loss(districts: &[i64; LEDGER_NUMBERS], whole: Totals) -> Result<Option<Loss>, Refusal>
     ensures { loss_given result ≡ total_read (ledger_of districts.now whole) }
 {
     if !in_range(districts, whole) {
-        return LossAnswer::Refused(Refusal::Range);
+        return Err(Refusal::Range);
     }
-    LossAnswer::Loss(loss_of(whole))
+    Ok(Some(loss_of(whole)))
 }
 
 // The first district from `from` on that has records; behind the last where none has.
@@ -213,23 +196,14 @@ pub fn next_district(districts: &[i64; LEDGER_NUMBERS], from: usize) -> usize
     requires { from ≤ DISTRICT-COUNT }
     ensures { result ≡ next_from districts.now from (DISTRICT-COUNT - from) }
 {
-    let mut d = from;
-    while d < DISTRICTS {
-        if has_records(totals_at(districts, d)) {
-            return d;
-        }
-        d += 1;
-    }
-    d
+    (from..DISTRICTS)
+        .find(|d| has_records(totals_at(districts, *d)))
+        .unwrap_or(DISTRICTS)
 }
 
 // All numbers 0: an empty ledger.
 pub fn clear(numbers: &mut [i64])
     ensures { numbers.new ≡ replicate (length numbers.old) (pos 0) }
 {
-    let mut i = 0;
-    while i < numbers.len() {
-        numbers[i] = 0;
-        i += 1;
-    }
+    numbers.fill(0);
 }

@@ -14,6 +14,9 @@ use Rattle.meaning.specs.Filters.{filter_of}
 use Rattle.meaning.specs.Rules.{Rule, insert, rename, without}
 use Rattle.meaning.specs.Plan.{Plan, with_slot, with_rules}
 use Rattle.meaning.specs.Calls.{Operation, open_plan, add_set, replace_set, remove_set, add_rule, change_rule, remove_rule, OPEN-PLAN, ADD-SET, REPLACE-SET, REMOVE-SET, ADD-RULE, CHANGE-RULE, REMOVE-RULE, is_call, kind_of, operation_of, lines_of, set_number, content_given, code_given, set_given, rule_given, add_set_lines, replace_set_lines, remove_set_lines, add_rule_lines, change_rule_lines, remove_rule_lines, over_plan, on_plan, made}
+use Rattle.meaning.specs.Answers.{edit_of}
+use Rattle.meaning.specs.declared.kinds.Edit.{Edit}
+use Rattle.meaning.specs.declared.kinds.Edit.TheVariants.{AddSet, ReplaceSet, RemoveSet, AddRule, ChangeRule, RemoveRule}
 use Rattle.meaning.specs.LookBack.{opening_after}
 use Rattle.meaning.proofs.Tests.{at_below}
 
@@ -78,6 +81,15 @@ asks remove_set = on_slot remove_set refl remove_set_lines (λ lacks s b. refl) 
 asks add_rule = on_rules add_rule refl add_rule_lines (λ lacks s b. refl) (λ b o. refl) (λ b. insert (rule_given b)) (λ s b. refl)
 asks change_rule = on_rules change_rule refl change_rule_lines (λ lacks s b. refl) (λ b o. refl) (λ b. rename (filter_of (code_given b)) (set_given b)) (λ s b. refl)
 asks remove_rule = on_rules remove_rule refl remove_rule_lines (λ lacks s b. refl) (λ b o. refl) (λ b. without (filter_of (code_given b))) (λ s b. refl)
+
+-- an edit does not open
+pub edits : (e : Edit) → is_opening (edit_of e) ≡ false
+edits AddSet = refl
+edits ReplaceSet = refl
+edits RemoveSet = refl
+edits AddRule = refl
+edits ChangeRule = refl
+edits RemoveRule = refl
 
 -- no test is both
 pub not_both : {A : Type 0} {t : Bool} → t ≡ false → t ≡ true → A

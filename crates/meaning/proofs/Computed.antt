@@ -32,10 +32,11 @@ use Rattle.meaning.specs.Ledger.{LEDGER-LIMIT, Ledger, ledger_of, totals_of, emp
 use Rattle.meaning.specs.Charges.{CallRecord, call_record_of, call_in_range, priced_on, due_of, entry_of, charge_lines, taking_refusal, charged, ledger_after}
 use Rattle.meaning.specs.Records.{decimal, digit_text, ok_line, no_line, number_line, refs_line, listed_line, end_line, loss_line, total_line, loss_text, lacks_program_room, record_text, record_house, house_with, text_from, file_text, End, file_end}
 use Rattle.meaning.specs.Answers.{code_of, class_of, outgoing_of, number_of_refusal}
-use Rattle.meaning.specs.declared.ClassOf.{ClassOf}
-use Rattle.meaning.specs.declared.ClassOf.TheVariants.{Known, Unknown as UnknownClass}
-use Rattle.meaning.specs.declared.OutgoingOf.{OutgoingOf}
-use Rattle.meaning.specs.declared.OutgoingOf.TheVariants.{Given, AsIncoming, Unknown as UnknownOutgoing}
+use Rattle.std.specs.Prelude.{Result, Ok, Err}
+use Rattle.meaning.specs.declared.Class.{Class}
+use Rattle.meaning.specs.declared.UnknownClass.{UnknownClass}
+use Rattle.meaning.specs.declared.Outgoing.{Outgoing}
+use Rattle.meaning.specs.declared.Outgoing.TheVariants.{Given, AsIncoming}
 use Rattle.meaning.specs.declared.Refusal.TheVariants.{Cut, Kind, Plan as PlanRefused, Room, Range, Groups, Taken, Absent, Misfit, Full, InUse, Short, Long}
 use Rattle.meaning.specs.Examples.{string, MEMORY}
 use Rattle.meaning.specs.Run.{ascii, file, run, nine_lines, three_accounts, seven_lines}
@@ -653,14 +654,14 @@ looked =
 -- THE ANSWERS' CASES BY THEIR NUMBERS
 
 -- 255 stands for "as incoming", 256 for a byte that is no class
-abbrev pub shown_class : ClassOf → ℕ
-shown_class (Known c) = code_of c
-shown_class UnknownClass = 256
+abbrev pub shown_class : Result Class UnknownClass → ℕ
+shown_class (Ok c) = code_of c
+shown_class (Err e) = 256
 
-abbrev pub shown_outgoing : OutgoingOf → ℕ
-shown_outgoing (Given c) = code_of c
-shown_outgoing AsIncoming = 255
-shown_outgoing UnknownOutgoing = 256
+abbrev pub shown_outgoing : Result Outgoing UnknownClass → ℕ
+shown_outgoing (Ok (Given c)) = code_of c
+shown_outgoing (Ok AsIncoming) = 255
+shown_outgoing (Err e) = 256
 
 pub numbered : List Row
 numbered =

@@ -7,9 +7,9 @@ use Rattle.meaning.specs.Basics.{bytes_of_word}
 use Rattle.meaning.specs.Rules.{Rule}
 use Rattle.meaning.specs.Plan.{Plan}
 use Rattle.meaning.specs.Compare.{Difference, left_only, right_only, both, differ, differences, entry, difference_bytes, count_in, comparison}
-use Rattle.meaning.specs.Answers.{compared_of}
+use Rattle.meaning.specs.Answers.{count_of}
 use Rattle.meaning.specs.declared.Refusal.TheVariants.{Plan as NoPlan, Room}
-use Rattle.meaning.specs.declared.Compared.TheVariants.{Differences, Refused as NotCompared}
+use Rattle.std.specs.Prelude.{Ok, Err}
 use Rattle.meaning.specs.Run.{file}
 use Rattle.meaning.proofs.Computed.{everything, filter, new_rule, opening, relay, plain, s1, escape, behind, shown_count, sixty_four_rules, sixty_four_nested}
 
@@ -112,5 +112,5 @@ unfolding sides
 plan_refused = refl
 
 -- the answer's cases by their numbers
-pub compared_numbers : file (map shown_count (compared_of (Differences 5) ∷ compared_of (NotCompared NoPlan) ∷ compared_of (NotCompared Room) ∷ [])) ≡ 0 ∷ 5 ∷ 3 ∷ 0 ∷ 4 ∷ 0 ∷ []
+pub compared_numbers : file (map shown_count (count_of (Ok 5) ∷ count_of (Err NoPlan) ∷ count_of (Err Room) ∷ [])) ≡ 0 ∷ 5 ∷ 3 ∷ 0 ∷ 4 ∷ 0 ∷ []
 compared_numbers = refl

@@ -15,21 +15,6 @@ pub mod sizes;
 #[derive(Clone, Copy)]
 pub struct Class(u8);
 
-// What a byte is as a class.
-#[derive(Clone, Copy)]
-pub enum ClassOf {
-    Known(Class),
-    Unknown,
-}
-
-// What a byte is as an outgoing class.
-#[derive(Clone, Copy)]
-pub enum OutgoingOf {
-    Given(Class),
-    AsIncoming,
-    Unknown,
-}
-
 impl Class {
     pub const INTL: Class = Class(0);
 
@@ -42,42 +27,58 @@ impl Class {
     pub const HOUSE4: Class = Class(4);
 
     pub const HOUSE5: Class = Class(5);
+}
 
-    // The class of a byte; every byte but 0 to 5 is refused.
-    pub fn of(b: u8) -> ClassOf
-        ensures { result ≡ class_of b }
-    {
+// What a set sends as the outgoing class: a class, or the incoming one.
+#[derive(Clone, Copy)]
+pub enum Outgoing {
+    Given(Class),
+    AsIncoming,
+}
+
+// A byte that is no class.
+#[derive(Clone, Copy)]
+pub struct UnknownClass(pub u8);
+
+// Every byte but 0 to 5 is refused.
+impl TryFrom<u8> for Class {
+    type Error = UnknownClass;
+
+    ghost try_from_gives = { λ b r. r ≡ class_of b };
+
+    fn try_from(b: u8) -> Result<Class, UnknownClass> {
         match b {
-            0 => ClassOf::Known(Class::INTL),
-            1 => ClassOf::Known(Class::NATL),
-            2 => ClassOf::Known(Class::UNKNOWN),
-            3 => ClassOf::Known(Class::HOUSE3),
-            4 => ClassOf::Known(Class::HOUSE4),
-            5 => ClassOf::Known(Class::HOUSE5),
-            _ => ClassOf::Unknown,
+            0 => Ok(Class::INTL),
+            1 => Ok(Class::NATL),
+            2 => Ok(Class::UNKNOWN),
+            3 => Ok(Class::HOUSE3),
+            4 => Ok(Class::HOUSE4),
+            5 => Ok(Class::HOUSE5),
+            _ => Err(UnknownClass(b)),
         }
     }
+}
 
-    // The outgoing class of a byte: a class, or 255 for "as incoming".
-    pub fn outgoing(b: u8) -> OutgoingOf
-        ensures { result ≡ outgoing_of b }
-    {
-        match b {
-            0 => OutgoingOf::Given(Class::INTL),
-            1 => OutgoingOf::Given(Class::NATL),
-            2 => OutgoingOf::Given(Class::UNKNOWN),
-            3 => OutgoingOf::Given(Class::HOUSE3),
-            4 => OutgoingOf::Given(Class::HOUSE4),
-            5 => OutgoingOf::Given(Class::HOUSE5),
-            255 => OutgoingOf::AsIncoming,
-            _ => OutgoingOf::Unknown,
+// A class, or 255 for "as incoming".
+impl TryFrom<u8> for Outgoing {
+    type Error = UnknownClass;
+
+    ghost try_from_gives = { λ b r. r ≡ outgoing_of b };
+
+    fn try_from(b: u8) -> Result<Outgoing, UnknownClass> {
+        if b == 255 {
+            return Ok(Outgoing::AsIncoming);
         }
+        let class = Class::try_from(b)?;
+        Ok(Outgoing::Given(class))
     }
+}
 
-    pub fn code(self) -> u8
-        ensures { result ≡ code_of self }
-    {
-        self.0
+impl From<Class> for u8 {
+    ghost from_gives = { λ class b. b ≡ code_of class };
+
+    fn from(class: Class) -> u8 {
+        class.0
     }
 }
 
@@ -109,12 +110,12 @@ pub enum Refusal {
     LedgerFull,
 }
 
-impl Refusal {
-    // Document 01's number.
-    pub fn number(self) -> u8
-        ensures { result ≡ number_of_refusal self }
-    {
-        match self {
+// Document 01's number.
+impl From<Refusal> for u8 {
+    ghost from_gives = { λ refusal n. n ≡ number_of_refusal refusal };
+
+    fn from(refusal: Refusal) -> u8 {
+        match refusal {
             Refusal::Cut => refusals::CUT,
             Refusal::Kind => refusals::KIND,
             Refusal::Plan => refusals::PLAN,
@@ -134,66 +135,14 @@ impl Refusal {
     }
 }
 
-// What opening and provisioning answer.
-#[derive(Clone, Copy)]
-pub enum Provisioned {
-    Accepted,
-    Refused(Refusal),
-}
-
-impl Provisioned {
-    // 0 for an accepted call, else the number of its refusal.
-    pub fn number(self) -> u8
-        ensures { result ≡ number_of_provisioned self }
-    {
-        match self {
-            Provisioned::Accepted => refusals::ACCEPTED,
-            Provisioned::Refused(r) => r.number(),
-        }
+// The number of what opening and provisioning answer: 0 for an accepted call, else that of its refusal.
+pub fn answer_number(provisioned: Result<(), Refusal>) -> u8
+    ensures { result ≡ number_of_provisioned provisioned }
+{
+    match provisioned {
+        Ok(()) => refusals::ACCEPTED,
+        Err(refusal) => u8::from(refusal),
     }
-}
-
-// What a call that writes answers: how many bytes.
-#[derive(Clone, Copy)]
-pub enum Written {
-    Bytes(usize),
-    Refused(Refusal),
-}
-
-// What a call that counts answers.
-#[derive(Clone, Copy)]
-pub enum Counted {
-    Rules(usize),
-    Refused(Refusal),
-}
-
-// What comparing two plans answers: how many differences there are.
-#[derive(Clone, Copy)]
-pub enum Compared {
-    Differences(usize),
-    Refused(Refusal),
-}
-
-// The rule chosen for a number.
-#[derive(Clone, Copy)]
-pub enum Chosen {
-    At(RulePlace),
-    NoRule,
-}
-
-// Where a filter stands in the listing, or where adding would put it.
-#[derive(Clone, Copy)]
-pub enum FilterPlace {
-    Held(RulePlace),
-    Absent(RulePlace),
-}
-
-// The listing order of two filters.
-#[derive(Clone, Copy)]
-pub enum Order {
-    Before,
-    Same,
-    After,
 }
 
 // The answer to a number. The digits themselves stand at the front of the lent buffer.
@@ -218,10 +167,9 @@ pub struct Span {
 }
 
 // A rule of the listing: its filter's class, how many digits its prefix has, the prefix at its full width with unused bytes 0, the length, and
-// the set that it names. Where there is a refusal: its number, and every other field 0.
+// the set that it names.
 #[derive(Clone, Copy)]
 pub struct ListedRule {
-    pub refusal: u8,
     pub class: u8,
     pub digits: u8,
     pub prefix: [u8; 16],
@@ -250,12 +198,4 @@ pub struct Taken {
 pub struct Loss {
     pub units: i64,
     pub cents: i64,
-}
-
-// What a call that reads a loss answers.
-#[derive(Clone, Copy)]
-pub enum LossAnswer {
-    Loss(Loss),
-    NoRecords,
-    Refused(Refusal),
 }

@@ -8,7 +8,9 @@ use Rattle.meaning.specs.Basics.{is_empty}
 use Rattle.std.specs.Prelude.{if◌then◌else◌}
 use Rattle.meaning.specs.Ledger.{LEDGER-LIMIT, Ledger, empty_ledger, totals_at, ledger_in_range, Entry, cents, loss_read, total_read}
 use Rattle.meaning.specs.Answers.{loss_given}
-use Rattle.meaning.specs.declared.LossAnswer.{LossAnswer}
+use Rattle.std.specs.Prelude.{Result, Option as Optional}
+use Rattle.meaning.specs.declared.Refusal.{Refusal}
+use Rattle.meaning.specs.declared.«Loss».{«Loss» as LossRead}
 use Rattle.plan.specs.State.{state_of}
 use Rattle.changes.specs.Promise.{Chain}
 use Rattle.prices.specs.Layout.{prices_of}
@@ -16,10 +18,10 @@ use Rattle.month.specs.Entries.{dues, bills, of_district, totals_over}
 use Rattle.month.specs.Events.{Event, Month, month_of, month_from, month_numbers, plan_calls, plan_numbers, MonthLent, Events}
 
 -- the promises of the two calls that read a loss
-abbrev pub GivesLoss : Ledger → ℕ → LossAnswer → Type 0
+abbrev pub GivesLoss : Ledger → ℕ → Result (Optional LossRead) Refusal → Type 0
 GivesLoss l d r = loss_given r ≡ loss_read l d
 
-abbrev pub GivesTotal : Ledger → LossAnswer → Type 0
+abbrev pub GivesTotal : Ledger → Result (Optional LossRead) Refusal → Type 0
 GivesTotal l r = loss_given r ≡ total_read l
 
 -- due less billed over some records, added exactly, and its cents, rounded once
@@ -59,9 +61,9 @@ module _ (before : MonthLent) (es : List Event) (numbers : List ℕ) (behind : M
     -- "and the grand total those over all"
     pub whole_is : behind.ledger.whole ≡ totals_over (month_over before es).entries
     -- the losses read are their differences, rounded once; none exactly if a district has no record
-    pub losses_are : (d : ℕ) → d < DISTRICTS → (r : LossAnswer) → GivesLoss behind.ledger d r
+    pub losses_are : (d : ℕ) → d < DISTRICTS → (r : Result (Optional LossRead) Refusal) → GivesLoss behind.ledger d r
         → loss_given r ≡ (0, (if is_empty (of_district d (month_over before es).entries) then none else some (losses_over (of_district d (month_over before es).entries))))
-    pub total_is : (r : LossAnswer) → GivesTotal behind.ledger r → loss_given r ≡ (0, some (losses_over (month_over before es).entries))
+    pub total_is : (r : Result (Optional LossRead) Refusal) → GivesTotal behind.ledger r → loss_given r ≡ (0, some (losses_over (month_over before es).entries))
     -- the ledger never draws RANGE, and takes "10,000,000 records"; every sum fits
     pub in_range : ledger_in_range behind.ledger ≡ true
     pub few : length (month_over before es).entries ≤ LEDGER-LIMIT

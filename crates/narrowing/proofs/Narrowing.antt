@@ -23,7 +23,7 @@ use Rattle.buffer.specs.Slots.{slots}
 use Rattle.buffer.proofs.SlotLaws.{slot_at}
 use Rattle.filter.specs.Slots.{FilterBytes, RuleArea, rule_of, rules_of}
 use Rattle.filter.proofs.FilterLaws.{prefix_is, prefix_length}
-use Rattle.filter.proofs.RuleLaws.{filter_in_lem, length_rules, slot_bytes, Left, left_all, left_better, left_worse, left_none}
+use Rattle.filter.proofs.RuleLaws.{filter_in_lem, length_rules, own_bytes, Left, left_all, left_better, left_worse, left_none}
 use Rattle.narrowing.specs.Columns.{byte_at, Narrowed, length_weight}
 use Rattle.narrowing.proofs.Prefixes.{digits_rise, classes_rise, not_behind, one_more, other_class, other_digit, too_long, by_length}
 use Rattle.narrowing.proofs.ColumnLaws.{Rising, Parted, parted}
@@ -41,7 +41,7 @@ slot_byte m k c h = get_or-take RULE-WIDTH (drop (RULE-WIDTH * k) m) c 0 h ∙ g
 
 module _ (n : ℕ) (m : List ℕ) (area : RuleArea n m) (k : ℕ) (inside : k < n) where
   bytes : FilterBytes (take RULE-WIDTH (drop (RULE-WIDTH * k) m))
-  bytes = rw (lent k) at (slot_bytes n k m area inside)
+  bytes = own_bytes n k m area inside
 
   class_at : (filter_at m k).class ≡ byte_at m CLASS-AT k
   unfolding filter_of

@@ -60,34 +60,34 @@ holds_unserved a outcome class after r e p = holds a (unserved outcome class) af
 -- AFTER THE SERVICE ACTIONS
 
 module _ (incoming class : ℕ) (s : Served) (ds : List ℕ) where
-  pub finished_responded : 2 ≤ s.response → finished incoming class s ds ≡ served_by RESPONDED incoming s []
+  pub finished_responded : 2 ≤ s.effect.response → finished incoming class s ds ≡ served_by RESPONDED incoming s []
   unfolding finished
-  finished_responded h = rw (le-leb 2 s.response h)
+  finished_responded h = rw (le-leb 2 s.effect.response h)
 
-  module _ (relay : s.response < 2) where
-    pub finished_withheld : s.withheld ≡ true → finished incoming class s ds ≡ served_by UNCHANGED incoming s []
+  module _ (relay : s.effect.response < 2) where
+    pub finished_withheld : s.effect.withheld ≡ true → finished incoming class s ds ≡ served_by UNCHANGED incoming s []
     unfolding finished
-    finished_withheld w = rw (lt-leb 2 s.response relay, w)
+    finished_withheld w = rw (lt-leb 2 s.effect.response relay, w)
 
-    module _ (w : s.withheld ≡ false) where
+    module _ (w : s.effect.withheld ≡ false) where
       pub finished_long : 32 < length ds → finished incoming class s ds ≡ refused LONG
       unfolding finished
-      finished_long h = rw (lt-leb 2 s.response relay, w, lt-leb (length ds) 32 h)
+      finished_long h = rw (lt-leb 2 s.effect.response relay, w, lt-leb (length ds) 32 h)
 
       pub finished_formatted : length ds ≤ 32 → finished incoming class s ds ≡ served_by FORMATTED class s ds
       unfolding finished
-      finished_formatted h = rw (lt-leb 2 s.response relay, w, le-leb (length ds) 32 h)
+      finished_formatted h = rw (lt-leb 2 s.effect.response relay, w, le-leb (length ds) 32 h)
 
 -- each way after the service actions, with what the buffer holds
 module _ (incoming class : ℕ) (s : Served) (ds after : List ℕ) (r : Answered) where
-  pub holds_responded : 2 ≤ s.response → r ≡ counted_as RESPONDED incoming s 0 → HoldsAnswer (finished incoming class s ds) after r
+  pub holds_responded : 2 ≤ s.effect.response → r ≡ counted_as RESPONDED incoming s 0 → HoldsAnswer (finished incoming class s ds) after r
   holds_responded h p = holds (finished incoming class s ds) (served_by RESPONDED incoming s []) after r (finished_responded incoming class s ds h) p (omega arith) refl
 
-  pub holds_withheld : s.response < 2 → s.withheld ≡ true → r ≡ counted_as UNCHANGED incoming s 0 → HoldsAnswer (finished incoming class s ds) after r
+  pub holds_withheld : s.effect.response < 2 → s.effect.withheld ≡ true → r ≡ counted_as UNCHANGED incoming s 0 → HoldsAnswer (finished incoming class s ds) after r
   holds_withheld l w p = holds (finished incoming class s ds) (served_by UNCHANGED incoming s []) after r (finished_withheld incoming class s ds l w) p (omega arith) refl
 
   -- the digits are joined: too many, or as many as are counted
-  module _ (l : s.response < 2) (w : s.withheld ≡ false) (n : ℕ) (j : JoinsInto ds 32 after n) where
+  module _ (l : s.effect.response < 2) (w : s.effect.withheld ≡ false) (n : ℕ) (j : JoinsInto ds 32 after n) where
     pub holds_long : 32 < n → r ≡ answered_as (refused LONG) → HoldsAnswer (finished incoming class s ds) after r
     holds_long h p = holds_refused (finished incoming class s ds) LONG after r (finished_long incoming class s ds l w (joined_many j h)) p
 

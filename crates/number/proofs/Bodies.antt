@@ -4,6 +4,7 @@ use mathlib.Core.Path.{◌≡◌, ap, sym, subst, ◌∙◌}
 use mathlib.Core.Bool.{true}
 use mathlib.Core.List.{List}
 use mathlib.Core.Option.{Option, none}
+use Rattle.std.specs.Prelude.{Option as Optional, None, option_map}
 use native.Mathlib.Omega.{arith}
 use lib.ListN.{length, take, drop, get_or, length-drop}
 use lib.Seq.{length-take-le, get_or-take, get_or-drop}
@@ -11,24 +12,23 @@ use lib.Dec.{T, leb→le, lit<}
 use Rattle.meaning.specs.Sizes.{CLASS-AT, DIALLED-AT, DIALLED-DIGITS-AT, NUMBER-BYTES}
 use Rattle.meaning.specs.Basics.{part}
 use Rattle.meaning.specs.Settings.{Number, lookup_of, number_of, lookup_ranges, lookup_in_range, number_ranges, number_in_range}
-use Rattle.meaning.specs.Rules.{filter_in, chosen_place, chosen}
+use Rattle.meaning.specs.Rules.{filter_in, chosen}
 use Rattle.meaning.specs.Actions.{actions_of}
 use Rattle.meaning.specs.Plan.{settings_in, actions_in}
 use Rattle.meaning.specs.Answer.{NO-RULE, Answer, unserved, answer_by, answer_under, answer_of}
-use Rattle.meaning.specs.Answers.{answered_as, place_chosen}
+use Rattle.meaning.specs.Answers.{answered_as}
 use Rattle.meaning.specs.declared.Answered.{Answered}
-use Rattle.meaning.specs.declared.Chosen.{Chosen}
-use Rattle.meaning.specs.declared.Chosen.TheVariants.{At, NoRule}
-use Rattle.meaning.specs.declared.RulePlace.{RulePlace}
 use Rattle.meaning.proofs.Tests.{true_is, all_at, digits_said}
 use Rattle.buffer.proofs.DigitLaws.{digits_at_lem}
 use Rattle.plan.specs.Layout.{plan_of}
 use Rattle.plan.proofs.ReadLaws.{sound_is}
-use Rattle.plan.specs.Readings.{Prefix, NamedContent}
-use Rattle.choice.proofs.Chosen.{ChosenAt, chosen_at, none_chosen}
-use Rattle.plan.proofs.PlacedRules.{rule_placed}
+use Rattle.plan.specs.declared.HeldRule.{HeldRule}
+use Rattle.plan.specs.State.{sound_of}
+use Rattle.plan.specs.Readings.{Prefix, NamedContent, rule_placed}
+use Rattle.choice.specs.Chosen.{ChoicePromise}
+use Rattle.choice.proofs.Chosen.{ChosenAt, chosen_at, no_rule_given}
 use Rattle.formatting.specs.Sources.{lookup_in, digits_in}
-use Rattle.number.specs.Answering.{given_by, Answerable, Digits, Known, Holdable, Placed}
+use Rattle.number.specs.Answering.{given_by, Answerable, Digits, Known, Placed}
 use Rattle.number.specs.Promises.{HoldsAnswer}
 use Rattle.number.proofs.Answering.{holds_unserved, answer_with_lem}
 
@@ -58,11 +58,11 @@ module _ (body : List ℕ) (whole : length body ≡ NUMBER-BYTES) (range : numbe
 
 -- BY THE RULE CHOSEN
 
-module _ (m body out : List ℕ) (n k : ℕ) (placed : Placed m body n k out) where
+module _ (m body out : List ℕ) (n k : ℕ) (sound-m : sound_of m ≡ true) (placed : Placed m body n k out) where
   abbrev ds : List ℕ
   ds = digits_in n body
 
-  known : Known m body
+  known : Known body
   known = placed.holdable.known
 
   number_is : number_of body ≡ record { class = get_or body CLASS-AT 0; digits = ds; lookup = lookup_of (lookup_in body) }
@@ -70,14 +70,14 @@ module _ (m body out : List ℕ) (n k : ℕ) (placed : Placed m body n k out) wh
   number_is = rw placed.digits
 
   pub at_place : ChosenAt m (get_or body CLASS-AT 0) ds k
-  at_place = chosen_at m (get_or body CLASS-AT 0) ds k known.sound placed.place
+  at_place = chosen_at m (get_or body CLASS-AT 0) ds k sound-m placed.place
 
   module _ (settings content : List ℕ) (prefix : ℕ) (settings_is : settings ≡ (plan_of m).settings) (prefix_is : Prefix (rule_placed m k) prefix)
       (content_is : NamedContent (plan_of m) (rule_placed m k) content) where
     pub answerable : Answerable settings body n content out
     answerable =
         record {
-          settings_long = ap length settings_is ∙ (sound_is m known.sound).plan.settings_size;
+          settings_long = ap length settings_is ∙ (sound_is m sound-m).plan.settings_size;
           body_long = known.whole;
           kind = lookup_kind body known.whole known.range;
           few = placed.few;
@@ -100,15 +100,11 @@ module _ (m body out : List ℕ) (n k : ℕ) (placed : Placed m body n k out) wh
 
 -- BY THE CHOICE
 
-module _ (m body ds out : List ℕ) (holdable : Holdable m body out) (digits : Digits body ds) (o : Chosen)
-    (o_is : place_chosen o ≡ chosen_place (get_or body CLASS-AT 0) ds (plan_of m).rules) where
-  pub placed_at : (place : RulePlace) → o ≡ At place → Placed m body (length ds) place.0 out
-  placed_at place q =
-      record { holdable = holdable; digits = digits.from ∙ digits.is; few = digits.few; place = rw digits.from (sym o_is ∙ ap place_chosen q) }
-
-  pub holds_none : o ≡ NoRule → (after : List ℕ) (r : Answered) → r ≡ answered_as (unserved NO-RULE (get_or body CLASS-AT 0)) → HoldsAnswer (answer_of (plan_of m) (number_of body)) after r
+module _ (m body ds out : List ℕ) (digits : Digits body ds) (o : Optional HeldRule)
+    (o_is : ChoicePromise m (get_or body CLASS-AT 0) ds (option_map (λ (r : HeldRule). r.place) o)) where
+  pub holds_none : o ≡ None → (after : List ℕ) (r : Answered) → r ≡ answered_as (unserved NO-RULE (get_or body CLASS-AT 0)) → HoldsAnswer (answer_of (plan_of m) (number_of body)) after r
   unfolding answer_of number_of
   holds_none q after r e =
       let c : chosen (get_or body CLASS-AT 0) (number_of body).digits (plan_of m).rules ≡ none =
-      ap (λ (x : List ℕ). chosen (get_or body CLASS-AT 0) x (plan_of m).rules) (sym digits.is) ∙ none_chosen m (get_or body CLASS-AT 0) ds (sym o_is ∙ ap place_chosen q) in
+      ap (λ (x : List ℕ). chosen (get_or body CLASS-AT 0) x (plan_of m).rules) (sym digits.is) ∙ no_rule_given m (get_or body CLASS-AT 0) ds o o_is q in
       holds_unserved (answer_of (plan_of m) (number_of body)) NO-RULE (get_or body CLASS-AT 0) after r (ap (answer_under (plan_of m) (number_of body)) c) e

@@ -5,19 +5,20 @@ use mathlib.Core.Bool.{true, false}
 use mathlib.Core.List.{List}
 use mathlib.Core.Option.{Option, none, some}
 use lib.ListN.{length, take}
-use lib.Seq.{length-take-le}
 use borrow.Author.Tests.{lt-ltb, le-ltb}
 use Rattle.meaning.specs.Sizes.{NUMBER-BYTES, DIGIT-ROOM}
 use Rattle.meaning.specs.Refusals.{CUT, PLAN, ROOM, RANGE}
 use Rattle.meaning.specs.Settings.{number_of, number_in_range}
 use Rattle.meaning.specs.Plan.{Plan}
 use Rattle.meaning.specs.Answer.{Answer, refused, answer_of, answer}
-use Rattle.meaning.specs.Answers.{answered_as}
+use Rattle.meaning.specs.Answers.{number_of_refusal, answered_as}
 use Rattle.meaning.specs.declared.Answered.{Answered}
+use Rattle.meaning.specs.declared.Refusal.{Refusal}
+use Rattle.meaning.specs.declared.Refusal.TheVariants.{Plan as NoPlan}
 use Rattle.plan.specs.Layout.{plan_of}
 use Rattle.plan.specs.State.{sound_of, state_of}
+use Rattle.plan.specs.declared.SoundPlan.{SoundPlan}
 use Rattle.plan.proofs.ImageLaws.{state_some, state_none}
-use Rattle.number.specs.Answering.{Known}
 use Rattle.number.specs.Promises.{GivesAnswer, AnswerPromise}
 use Rattle.number.proofs.Answering.{gives_refused}
 
@@ -30,12 +31,15 @@ module _ (m body out : List ℕ) (r : Answered) where
   gives_cut h e = gives_refused (answer (state_of m) (length out) body) CUT out r (cut_is (state_of m) (length out) body h) e
 
   module _ (whole : NUMBER-BYTES ≤ length body) where
-    pub gives_unsound : sound_of m ≡ false → r ≡ answered_as (refused PLAN) → AnswerPromise m body out out r
-    gives_unsound s e =
+    pub gives_unsound : (f : Refusal) → f ≡ NoPlan → sound_of m ≡ false → r ≡ answered_as (refused (number_of_refusal f)) → AnswerPromise m body out out r
+    gives_unsound f q s e =
         let is : answer none (length out) body ≡ refused PLAN = rw (le-ltb (length body) NUMBER-BYTES whole) in
-        gives_refused (answer (state_of m) (length out) body) PLAN out r (ap (λ (o : Option Plan). answer o (length out) body) (state_none m s) ∙ is) e
+        gives_refused (answer (state_of m) (length out) body) PLAN out r (ap (λ (o : Option Plan). answer o (length out) body) (state_none m s) ∙ is) (e ∙ ap (λ (x : Refusal). answered_as (refused (number_of_refusal x))) q)
 
-    module _ (s : sound_of m ≡ true) where
+    module _ (p : SoundPlan) (same : p.memory.now ≡ m) where
+      s : sound_of m ≡ true
+      s = rw (← same) p.sound
+
       over : answer (state_of m) (length out) body ≡ answer (some (plan_of m)) (length out) body
       over = ap (λ (o : Option Plan). answer o (length out) body) (state_some m s)
 
@@ -50,13 +54,9 @@ module _ (m body out : List ℕ) (r : Answered) where
             let is : answer (some (plan_of m)) (length out) body ≡ refused RANGE = rw (le-ltb (length body) NUMBER-BYTES whole, le-ltb (length out) DIGIT-ROOM room, q) in
             gives_refused (answer (state_of m) (length out) body) RANGE out r (over ∙ is) e
 
-        pub gives_known : number_in_range (take NUMBER-BYTES body) ≡ true → (after : List ℕ) → GivesAnswer (answer_of (plan_of m) (number_of (take NUMBER-BYTES body))) out after r
+        pub gives_known : number_in_range (take NUMBER-BYTES body) ≡ true → (after : List ℕ) → GivesAnswer (answer_of (plan_of p.memory.now) (number_of (take NUMBER-BYTES body))) out after r
             → AnswerPromise m body out after r
         gives_known q after g =
-            let is : answer (some (plan_of m)) (length out) body ≡ answer_of (plan_of m) (number_of (take NUMBER-BYTES body)) =
-            rw (le-ltb (length body) NUMBER-BYTES whole, le-ltb (length out) DIGIT-ROOM room, q) in
+            let is : answer (some (plan_of m)) (length out) body ≡ answer_of (plan_of p.memory.now) (number_of (take NUMBER-BYTES body)) =
+            rw (same, le-ltb (length body) NUMBER-BYTES whole, le-ltb (length out) DIGIT-ROOM room, q) in
             subst (λ (x : Answer). GivesAnswer x out after r) (sym (over ∙ is)) g
-
--- what the answer over the plan asks
-pub known_is : (m body : List ℕ) → NUMBER-BYTES ≤ length body → sound_of m ≡ true → number_in_range (take NUMBER-BYTES body) ≡ true → Known m (take NUMBER-BYTES body)
-known_is m body whole s q = record { sound = s; whole = length-take-le NUMBER-BYTES body whole; range = q }

@@ -2,39 +2,26 @@
 use Prim.Native.Nat.{ℕ}
 use mathlib.Core.Path.{◌≡◌, refl, ap, sym, ◌∙◌}
 use mathlib.Core.Bool.{Bool, true, false}
-use native.Mathlib.Omega.{arith}
 use lib.Dec.{eqb}
-use Rattle.std.specs.Prelude.{if◌then◌else◌}
+use Rattle.std.specs.Prelude.{if◌then◌else◌, Result, Ok, Err}
 use Rattle.meaning.specs.Settings.{is_class, AS-INCOMING}
 use Rattle.meaning.specs.Answer.{outgoing_class}
-use Rattle.meaning.specs.Answers.{code_of, class_numbered, outgoing_of}
-use Rattle.meaning.specs.declared.Class.{Class}
-use Rattle.meaning.specs.declared.OutgoingOf.{OutgoingOf}
-use Rattle.meaning.specs.declared.OutgoingOf.TheVariants.{Given, AsIncoming, Unknown}
+use Rattle.meaning.specs.Answers.{code_of, class_numbered, given, outgoing_of}
+use Rattle.meaning.specs.declared.Outgoing.{Outgoing}
+use Rattle.meaning.specs.declared.Outgoing.TheVariants.{Given, AsIncoming}
+use Rattle.meaning.specs.declared.UnknownClass.{UnknownClass}
 
-module _ (set incoming : ℕ) (r : OutgoingOf) (is : r ≡ outgoing_of set) where
-  pub class_given : (class : Class) → r ≡ Given class → (code : ℕ) → code ≡ code_of class → code ≡ outgoing_class set incoming
-  unfolding outgoing_class
-  class_given class q code code_is = code_is ∙ go (eqb set AS-INCOMING) (is_class set) (sym is ∙ q)
-    where
-      go : (a b : Bool) → (if a then AsIncoming else if b then Given (class_numbered set) else Unknown) ≡ Given class → code_of class ≡ (if a then incoming else set)
-      go true b e = absurd (let z : ◌≡◌ {A = ℕ} 0 1 = cc in omega arith)
-      go false true e = let same : class_numbered set ≡ class = cc in sym (ap code_of same)
-      go false false e = absurd (let z : ◌≡◌ {A = ℕ} 0 1 = cc in omega arith)
+module _ (set incoming : ℕ) where
+  abbrev pub class_sent : Result Outgoing UnknownClass → ℕ
+  class_sent (Ok (Given class)) = code_of class
+  class_sent (Ok AsIncoming) = incoming
+  class_sent (Err e) = set
 
-  pub class_as_incoming : r ≡ AsIncoming → incoming ≡ outgoing_class set incoming
+  pub class_is : (r s : Result Outgoing UnknownClass) → r ≡ outgoing_of set → r ≡ s → class_sent s ≡ outgoing_class set incoming
   unfolding outgoing_class
-  class_as_incoming q = go (eqb set AS-INCOMING) (is_class set) (sym is ∙ q)
+  class_is r s is q = ap class_sent (sym q ∙ is) ∙ go (eqb set AS-INCOMING) (is_class set)
     where
-      go : (a b : Bool) → (if a then AsIncoming else if b then Given (class_numbered set) else Unknown) ≡ AsIncoming → incoming ≡ (if a then incoming else set)
-      go true b e = refl
-      go false true e = absurd (let z : ◌≡◌ {A = ℕ} 0 1 = cc in omega arith)
-      go false false e = absurd (let z : ◌≡◌ {A = ℕ} 0 1 = cc in omega arith)
-
-  pub class_unknown : r ≡ Unknown → set ≡ outgoing_class set incoming
-  unfolding outgoing_class
-  class_unknown q = go (eqb set AS-INCOMING) (is_class set) (sym is ∙ q)
-    where
-      go : (a b : Bool) → (if a then AsIncoming else if b then Given (class_numbered set) else Unknown) ≡ Unknown → set ≡ (if a then incoming else set)
-      go true b e = absurd (let z : ◌≡◌ {A = ℕ} 0 1 = cc in omega arith)
-      go false b e = refl
+      go : (a b : Bool) → class_sent (if a then Ok AsIncoming else given (if b then Ok (class_numbered set) else Err (record { 0 = set }))) ≡ (if a then incoming else set)
+      go true b = refl
+      go false true = refl
+      go false false = refl

@@ -7,28 +7,37 @@ use Rattle.meaning.specs.Refusals.{LONG}
 use Rattle.meaning.specs.Settings.{settings_of, lookup_of, number_of, number_in_range}
 use Rattle.meaning.specs.Rules.{chosen_place}
 use Rattle.meaning.specs.Actions.{actions_of}
-use Rattle.meaning.specs.Answer.{RESPONDED, UNCHANGED, FORMATTED, Answer, refused, answer_with}
+use Rattle.meaning.specs.Answer.{NO-RULE, ESCAPED, RESPONDED, UNCHANGED, FORMATTED, Answer, refused, answer_with}
 use Rattle.meaning.specs.declared.Answered.{Answered}
 use Rattle.services.specs.declared.Served.{Served}
 use Rattle.formatting.specs.Sources.{lookup_in, digits_in}
 use Rattle.plan.specs.Layout.{plan_of}
-use Rattle.plan.specs.State.{sound_of}
+use Rattle.number.specs.declared.Outcome.{Outcome}
+use Rattle.number.specs.declared.Outcome.TheVariants.{NoRule, Escaped, Responded, Unchanged, Formatted}
+
+-- document 01's number of an outcome
+abbrev pub number_of_outcome : Outcome → ℕ
+number_of_outcome NoRule = NO-RULE
+number_of_outcome Escaped = ESCAPED
+number_of_outcome Responded = RESPONDED
+number_of_outcome Unchanged = UNCHANGED
+number_of_outcome Formatted = FORMATTED
 
 -- the struct of an answer after the service actions, with n digits
 abbrev pub counted_as : ℕ → ℕ → Served → ℕ → Answered
 counted_as outcome class s n =
-    record { refusal = 0; outcome = outcome; class = class; response = s.response; count = s.count; actions = s.actions; digits = n }
+    record { refusal = 0; outcome = outcome; class = class; response = s.effect.response; count = s.count; actions = s.actions; digits = n }
 
 -- the answer itself
 abbrev pub served_by : ℕ → ℕ → Served → List ℕ → Answer
 served_by outcome class s ds =
-    record { refusal = 0; outcome = outcome; class = class; response = s.response; count = s.count; actions = s.actions; digits = ds }
+    record { refusal = 0; outcome = outcome; class = class; response = s.effect.response; count = s.count; actions = s.actions; digits = ds }
 
 -- what follows the service actions: the incoming class, the outgoing one, and the outgoing digits
 unfoldable pub finished : ℕ → ℕ → Served → List ℕ → Answer
 finished incoming class s out =
-    if leb 2 s.response then served_by RESPONDED incoming s [] else
-    if s.withheld then served_by UNCHANGED incoming s [] else
+    if leb 2 s.effect.response then served_by RESPONDED incoming s [] else
+    if s.effect.withheld then served_by UNCHANGED incoming s [] else
     if leb (length out) 32 then served_by FORMATTED class s out else refused LONG
 
 -- document 01's answer by a rule, over the bytes of the settings, the lookup and the content
@@ -55,25 +64,24 @@ pub record Digits (body ds : List ℕ) : Type 0 where
   pub from : digits_in (length ds) body ≡ ds
   pub few : length ds ≤ 32
 
--- a sound plan, and a number's body in range
-pub record Known (m body : List ℕ) : Type 0 where
-  pub sound : sound_of m ≡ true
+-- a number's body in range
+pub record Known (body : List ℕ) : Type 0 where
   pub whole : length body ≡ NUMBER-BYTES
   pub range : number_in_range body ≡ true
 
 -- and room for the outgoing digits
-pub record Ready (m body out : List ℕ) : Type 0 where
-  pub known : Known m body
+pub record Ready (body out : List ℕ) : Type 0 where
+  pub known : Known body
   pub room : 32 ≤ length out
 
 -- and for two blocks behind them
-pub record Holdable (m body out : List ℕ) : Type 0 where
-  pub known : Known m body
+pub record Holdable (body out : List ℕ) : Type 0 where
+  pub known : Known body
   pub room : ANSWER-BYTES ≤ length out
 
 -- and the rule chosen, at place k, for the n digits of the body
 pub record Placed (m body : List ℕ) (n k : ℕ) (out : List ℕ) : Type 0 where
-  pub holdable : Holdable m body out
+  pub holdable : Holdable body out
   pub digits : digits_in n body ≡ (number_of body).digits
   pub few : n ≤ 32
   pub place : chosen_place (get_or body CLASS-AT 0) (digits_in n body) (plan_of m).rules ≡ some k

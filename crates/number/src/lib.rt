@@ -5,23 +5,23 @@ ghost use Rattle.std.specs.Prelude.{◌≡◌, true, ◌≤◌, length, get_or};
 ghost use Rattle.meaning.specs.Sizes.{CLASS-AT, NUMBER-BYTES};
 ghost use Rattle.meaning.specs.Settings.{number_of, number_in_range};
 ghost use Rattle.meaning.specs.Answer.{refused, unserved, outgoing_class, answer_of};
-ghost use Rattle.meaning.specs.Answers.{answered_as};
+ghost use Rattle.meaning.specs.Answers.{answered_as, number_of_refusal};
 ghost use Rattle.formatting.specs.Sources.{lookup_in, digits_in, Formattable};
 ghost use Rattle.formatting.specs.Joins.{outgoing_by};
 ghost use Rattle.plan.specs.Layout.{plan_of};
-ghost use Rattle.number.specs.Answering.{ANSWER-BYTES, counted_as, finished, given_by, Answerable, Digits, Ready, Holdable, Placed};
+ghost use Rattle.number.specs.Answering.{number_of_outcome, ANSWER-BYTES, counted_as, finished, given_by, Answerable, Digits, Ready, Holdable, Placed};
 ghost use Rattle.number.specs.Promises.{HoldsAnswer, GivesAnswer, AnswerPromise};
 
 use choice::choose;
-use conditioning::{PLACES, mark_spans};
+use conditioning::{Marks, mark_spans};
 use formatting::join_outgoing;
-use meaning::refusals::{ACCEPTED, CUT, LONG, PLAN, RANGE, ROOM, SHORT};
+use meaning::refusals::ACCEPTED;
 use meaning::sizes::{
     CLASS_AT, DIALLED_AT, DIALLED_DIGITS_AT, DIGIT_ROOM, LOOKUP_AT, NUMBER_BYTES, OUTGOING_AT,
     VALUE_BYTES,
 };
-use meaning::{Answered, Chosen, Class, OutgoingOf, RulePlace};
-use plan::{content_at, prefix_at};
+use meaning::{Answered, Outgoing, Refusal};
+use plan::{HeldRule, SoundPlan};
 use services::Served;
 
 // The most digits of an answer.
@@ -33,23 +33,38 @@ pub const ANSWER_BYTES: usize = 64;
 // The first response that ends the service stage.
 const CONNECT: u8 = 2;
 
-// The outcomes.
-const NO_RULE: u8 = 0;
+// What becomes of a number.
+#[derive(Clone, Copy)]
+pub enum Outcome {
+    NoRule,
+    Escaped,
+    Responded,
+    Unchanged,
+    Formatted,
+}
 
-const ESCAPED: u8 = 1;
+// Document 01's number.
+impl From<Outcome> for u8 {
+    ghost from_gives = { λ outcome n. n ≡ number_of_outcome outcome };
 
-pub const RESPONDED: u8 = 2;
-
-const UNCHANGED: u8 = 3;
-
-pub const FORMATTED: u8 = 4;
+    fn from(outcome: Outcome) -> u8 {
+        match outcome {
+            Outcome::NoRule => 0,
+            Outcome::Escaped => 1,
+            Outcome::Responded => 2,
+            Outcome::Unchanged => 3,
+            Outcome::Formatted => 4,
+        }
+    }
+}
 
 // A refusal: its number, and every other field 0.
-pub fn refused(number: u8) -> Answered
-    ensures { result ≡ answered_as (refused number) }
+#[tactic(auto, unfolding(meaning::specs::Answer::refused))]
+pub fn refused(refusal: Refusal) -> Answered
+    ensures { result ≡ answered_as (refused (number_of_refusal refusal)) }
 {
     Answered {
-        refusal: number,
+        refusal: u8::from(refusal),
         outcome: 0,
         class: 0,
         response: 0,
@@ -60,13 +75,14 @@ pub fn refused(number: u8) -> Answered
 }
 
 // An answer before the service actions.
-fn unserved(outcome: u8, class: u8) -> Answered
-    ensures { result ≡ answered_as (unserved outcome class) }
+#[tactic(auto, unfolding(meaning::specs::Answer::unserved))]
+fn unserved(outcome: Outcome, class: u8) -> Answered
+    ensures { result ≡ answered_as (unserved (number_of_outcome outcome) class) }
 {
     Answered {
         refusal: ACCEPTED,
-        outcome: outcome,
-        class: class,
+        outcome: u8::from(outcome),
+        class,
         response: 0,
         count: 0,
         actions: [0u8; 8],
@@ -75,18 +91,18 @@ fn unserved(outcome: u8, class: u8) -> Answered
 }
 
 // An answer after the service actions.
-fn served(outcome: u8, class: u8, s: Served, digits: usize) -> Answered
-    ensures { result ≡ counted_as outcome class s digits }
+fn served(outcome: Outcome, class: u8, s: Served, digits: usize) -> Answered
+    ensures { result ≡ counted_as (number_of_outcome outcome) class s digits }
 {
     let actions = s.actions;
     Answered {
         refusal: ACCEPTED,
-        outcome: outcome,
-        class: class,
-        response: s.response,
+        outcome: u8::from(outcome),
+        class,
+        response: s.effect.response,
         count: s.count,
-        actions: actions,
-        digits: digits,
+        actions,
+        digits,
     }
 }
 
@@ -94,10 +110,10 @@ fn served(outcome: u8, class: u8, s: Served, digits: usize) -> Answered
 fn outgoing_class(set: u8, incoming: u8) -> u8
     ensures { result ≡ outgoing_class set incoming }
 {
-    match Class::outgoing(set) {
-        OutgoingOf::Given(class) => class.code(),
-        OutgoingOf::AsIncoming => incoming,
-        OutgoingOf::Unknown => set,
+    match Outgoing::try_from(set) {
+        Ok(Outgoing::Given(class)) => u8::from(class),
+        Ok(Outgoing::AsIncoming) => incoming,
+        Err(_) => set,
     }
 }
 
@@ -109,26 +125,25 @@ fn finish(
     cas: &[u8],
     s: Served,
     fas: &[u8],
-    starts: &mut [u8],
-    counts: &mut [u8],
+    marks: &mut Marks,
     incoming: u8,
     class: u8,
     out: &mut [u8],
 ) -> Answered
-    requires { Formattable settings.now body.now starts.old counts.old × (ANSWER-BYTES ≤ length out.old) }
-    ensures { HoldsAnswer (finished incoming class s (outgoing_by settings.now body.now cas.now starts.old counts.old s fas.now)) out.new result }
+    requires { Formattable settings.now body.now marks.old × (ANSWER-BYTES ≤ length out.old) }
+    ensures { HoldsAnswer (finished incoming class s (outgoing_by settings.now body.now cas.now marks.old s fas.now)) out.new result }
 {
-    if CONNECT <= s.response {
-        return served(RESPONDED, incoming, s, 0);
+    if CONNECT <= s.effect.response {
+        return served(Outcome::Responded, incoming, s, 0);
     }
-    if s.withheld {
-        return served(UNCHANGED, incoming, s, 0);
+    if s.effect.withheld {
+        return served(Outcome::Unchanged, incoming, s, 0);
     }
-    let written = join_outgoing(settings, body, cas, s, fas, starts, counts, MOST, out);
+    let written = join_outgoing(settings, body, cas, s, fas, marks, MOST, out);
     if MOST < written {
-        return refused(LONG);
+        return refused(Refusal::Long);
     }
-    served(FORMATTED, class, s, written)
+    served(Outcome::Formatted, class, s, written)
 }
 
 // What a rule with a prefix of that many digits and the content of its set make of a number of n digits.
@@ -147,12 +162,11 @@ fn answer_by(
     let cas = actions::cas_of(content);
     let sent = outgoing_class(content[OUTGOING_AT], class);
     if actions::no_conditioning(cas) {
-        return unserved(ESCAPED, sent);
+        return unserved(Outcome::Escaped, sent);
     }
-    let mut starts = [0u8; PLACES];
-    let mut counts = [0u8; PLACES];
-    if mark_spans(cas, prefix, n, DIALLED_DIGITS_AT, &mut starts, &mut counts) {
-        return refused(SHORT);
+    let mut marks = Marks::none();
+    if mark_spans(cas, prefix, n, DIALLED_DIGITS_AT, &mut marks) {
+        return refused(Refusal::Short);
     }
     let s = services::service_stage(
         actions::sas_of(content),
@@ -160,58 +174,50 @@ fn answer_by(
         &body[LOOKUP_AT..VALUE_BYTES],
     );
     let fas = actions::fas_of(content);
-    finish(
-        settings,
+    finish(settings, body, cas, s, fas, &mut marks, class, sent, out)
+}
+
+// The digits of a body in range.
+pub fn digits_in(body: &[u8]) -> &[u8]
+    requires { (length body.now ≡ NUMBER-BYTES) × (number_in_range body.now ≡ true) }
+    ensures { Digits body.now result.now }
+{
+    let e = usize::from(body[DIALLED_AT]) + DIALLED_DIGITS_AT;
+    &body[DIALLED_DIGITS_AT..e]
+}
+
+// The answer by the rule chosen for a number of n digits.
+fn answer_at(rule: HeldRule, body: &[u8], n: usize, out: &mut [u8]) -> Answered
+    requires { Placed rule.plan.memory.now body.now n rule.place.0 out.old }
+    ensures { HoldsAnswer (answer_of (plan_of rule.entry.plan.memory.now) (number_of body.now)) out.new result }
+{
+    answer_by(
+        rule.plan.settings(),
         body,
-        cas,
-        s,
-        fas,
-        &mut starts,
-        &mut counts,
-        class,
-        sent,
+        n,
+        rule.prefix(),
+        rule.content(),
         out,
     )
 }
 
-// The digits of a body in range.
-pub fn digits_in<'a>(body: &'a [u8]) -> &'a [u8]
-    requires { (length body.now ≡ NUMBER-BYTES) × (number_in_range body.now ≡ true) }
-    ensures { Digits body.now result.now }
-{
-    let e = buffer::wide(body[DIALLED_AT]) + DIALLED_DIGITS_AT;
-    &body[DIALLED_DIGITS_AT..e]
-}
-
-// The answer by the rule chosen, which stands at a place, for a number of n digits.
-fn answer_at(plan: &[u8], body: &[u8], n: usize, place: RulePlace, out: &mut [u8]) -> Answered
-    requires { Placed plan.now body.now n place.0 out.old }
-    ensures { HoldsAnswer (answer_of (plan_of plan.now) (number_of body.now)) out.new result }
-{
-    let prefix = prefix_at(plan, place);
-    let content = content_at(plan, place);
-    let settings = plan::settings(plan);
-    answer_by(settings, body, n, prefix, content, out)
-}
-
-// The answer over a plan that is known to be sound, for a body of just its length that is in range. The outgoing digits stand at the front of a buffer of which
-// nothing else is kept.
-pub fn answer_held(plan: &[u8], body: &[u8], out: &mut [u8]) -> Answered
-    requires { Holdable plan.now body.now out.old }
-    ensures { HoldsAnswer (answer_of (plan_of plan.now) (number_of body.now)) out.new result }
+// The answer for a body of just its length that is in range. The outgoing digits stand at the front of a buffer of which nothing else is kept.
+pub fn answer_held(plan: SoundPlan, body: &[u8], out: &mut [u8]) -> Answered
+    requires { Holdable body.now out.old }
+    ensures { HoldsAnswer (answer_of (plan_of plan.entry.memory.now) (number_of body.now)) out.new result }
 {
     let digits = digits_in(body);
     let class = body[CLASS_AT];
     match choose(plan, class, digits) {
-        Chosen::NoRule => unserved(NO_RULE, class),
-        Chosen::At(place) => answer_at(plan, body, digits.len(), place, out),
+        None => unserved(Outcome::NoRule, class),
+        Some(rule) => answer_at(rule, body, digits.len(), out),
     }
 }
 
 // The same with the outgoing digits at the front of a lent buffer; the bytes behind them stay.
-pub fn answer_known(plan: &[u8], body: &[u8], out: &mut [u8]) -> Answered
-    requires { Ready plan.now body.now out.old }
-    ensures { GivesAnswer (answer_of (plan_of plan.now) (number_of body.now)) out.old out.new result }
+pub fn answer_known(plan: SoundPlan, body: &[u8], out: &mut [u8]) -> Answered
+    requires { Ready body.now out.old }
+    ensures { GivesAnswer (answer_of (plan_of plan.entry.memory.now) (number_of body.now)) out.old out.new result }
 {
     let mut digits = [0u8; ANSWER_BYTES];
     let a = answer_held(plan, body, &mut digits);
@@ -225,17 +231,18 @@ pub fn answer(plan: &[u8], body: &[u8], out: &mut [u8]) -> Answered
     ensures { AnswerPromise plan.now body.now out.old out.new result }
 {
     if body.len() < NUMBER_BYTES {
-        return refused(CUT);
+        return refused(Refusal::Cut);
     }
-    if !examiner::sound(plan) {
-        return refused(PLAN);
-    }
+    let plan = match examiner::examine(plan) {
+        Ok(plan) => plan,
+        Err(refusal) => return refused(refusal),
+    };
     if out.len() < DIGIT_ROOM {
-        return refused(ROOM);
+        return refused(Refusal::Room);
     }
     let number = &body[0..NUMBER_BYTES];
     if !ranges::number_in_range(number) {
-        return refused(RANGE);
+        return refused(Refusal::Range);
     }
     answer_known(plan, number, out)
 }

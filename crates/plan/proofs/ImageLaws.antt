@@ -1,19 +1,18 @@
 -- The image of a sound plan has the size that its rooms need, decodes to that plan whatever stands behind, and is sound; a sound memory is
 -- its plan's image and the rest.
-use Prim.Native.Nat.{ℕ, zero, suc, ◌+◌, ◌-◌, ◌*◌, ◌/◌, ◌%◌, ◌≤◌, ◌<◌}
+use Prim.Native.Nat.{ℕ, ◌+◌, ◌-◌, ◌*◌, ◌/◌, ◌%◌, ◌≤◌}
 use mathlib.Core.Path.{◌≡◌, refl, ap, ap₂, sym, subst, ◌∙◌}
-use mathlib.Core.Bool.{Bool, true, false, ◌&&◌, not}
-use mathlib.Core.List.{List, [], ◌∷◌, ◌++◌, map, append_assoc, append-nil}
+use mathlib.Core.Bool.{Bool, true, false}
+use mathlib.Core.List.{List, [], ◌∷◌, ◌++◌, map, append_assoc}
 use mathlib.Core.Option.{Option, none, some}
 use native.Mathlib.Omega.{arith}
-use native.Mathlib.Nat.{div-add-mod', mod-lt}
-use lib.ListN.{length, take, drop, get_or, length-append, length-take, length-drop, length-map, take-append-drop}
-use lib.Seq.{take_at, drop_at, take-length, drop-append-le, take-append-le, drop-drop, get_or-drop, length-take-le}
-use lib.Dec.{T, leb, eqb→eq, leb→le, le→leb}
+use native.Mathlib.Nat.{div-add-mod'}
+use lib.ListN.{length, take, drop, get_or, length-append, length-drop, length-map, take-append-drop}
+use lib.Seq.{take_at, drop_at, drop-append-le, take-append-le, drop-drop, get_or-drop, length-take-le}
+use lib.Dec.{T, eqb→eq, leb→le, le→leb}
 use Rattle.meaning.specs.Sizes.{ROOMS-BYTES, SETTINGS-BYTES, CONTENT-BYTES, FILTER-BYTES, SET-AT, RULE-BODY, SETTINGS-AT, SETTINGS-END, SETS-AT, COUNT-AT, SET-WIDTH, RULE-WIDTH}
-use Rattle.meaning.specs.Basics.{all, all_of, is_zero, word, part}
-use Rattle.std.specs.Prelude.{if◌then◌else◌}
-use Rattle.meaning.specs.Settings.{Rooms, rooms_of, bytes_needed}
+use Rattle.meaning.specs.Basics.{all, word, part}
+use Rattle.meaning.specs.Settings.{rooms_of, bytes_needed}
 use Rattle.meaning.specs.Rules.{Rule}
 use Rattle.meaning.specs.Plan.{Plan, rooms_in, sound, sized, content_rules, content_passes, slot_passes, code_passes, codes_pass}
 use Rattle.meaning.proofs.Tests.{is_true, true_is, and_left, and_right, all_at, each_all, same_tests, same_self, same_bytes_lem}
@@ -24,7 +23,7 @@ use Rattle.buffer.specs.Slots.{slots, flat, Wide}
 use Rattle.buffer.proofs.ZeroLaws.{length_zeros}
 use Rattle.buffer.proofs.SlotLaws.{length_flat, slots_flat}
 use Rattle.filter.specs.Slots.{rule_of, rules_of}
-use Rattle.plan.specs.Layout.{word_bytes, mark, header_image, slot_image, rule_image, sets_image, rules_image, image, rooms_at, size_of, set_room, rule_room, rule_count, slot_of, slots_of, plan_of}
+use Rattle.plan.specs.Layout.{word_bytes, mark, header_image, slot_image, rule_image, sets_image, rules_image, image, rooms_at, size_of, set_room, rule_count, slot_of, slots_of, plan_of}
 use Rattle.plan.specs.State.{sound_tests, sound_of, state_of, rest_of}
 
 -- two bytes of a number are the number

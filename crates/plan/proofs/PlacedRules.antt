@@ -22,7 +22,7 @@ use Rattle.filter.proofs.FilterLaws.{prefix_length}
 use Rattle.filter.proofs.RuleLaws.{filter_in_lem, slot_bytes}
 use Rattle.plan.specs.Layout.{rule_count, plan_of}
 use Rattle.plan.specs.State.{sound_of}
-use Rattle.plan.specs.Readings.{RulesPart, Content, RuleSlot, Prefix, NamedContent}
+use Rattle.plan.specs.Readings.{RulesPart, Content, RuleSlot, Prefix, NamedContent, rule_placed}
 use Rattle.plan.proofs.ReadLaws.{sound_is, rule_count_is, rule_there}
 
 -- THE AREA OF THE RULES
@@ -38,9 +38,6 @@ pub order_is : (m area : List ℕ) (n : ℕ) → sound_of m ≡ true → RulesPa
 order_is m area n e part count = ap rules_in_order (rules_are m area n part count) ∙ is_true (rules_in_order (plan_of m).rules) (sound_is m e).plan.order
 
 -- THE RULE AT A PLACE
-
-abbrev pub rule_placed : List ℕ → ℕ → Rule
-rule_placed m k = get_or (plan_of m).rules k no_rule
 
 module _ (m : List ℕ) (k : ℕ) (below : k < rule_count m) where
   stands : k < length (plan_of m).rules

@@ -1,10 +1,10 @@
 -- How a plan lies in the lent bytes (docs/LAYOUT.md): its image, and the plan that bytes hold.
-use Rattle.std.specs.Prelude.{ℕ, ◌+◌, ◌-◌, ◌*◌, ◌/◌, ◌%◌, Bool, true, false, ◌&&◌, List, [], ◌∷◌, ◌++◌, map, length, take, drop, get_or}
+use Rattle.std.specs.Prelude.{ℕ, ◌+◌, ◌-◌, ◌*◌, ◌/◌, ◌%◌, List, [], ◌∷◌, ◌++◌, map, length, drop, get_or}
 use Rattle.std.proofs.Math.Option.{Option, none, some}
 use Rattle.meaning.specs.Sizes.{ROOMS-BYTES, SETTINGS-BYTES, CONTENT-BYTES, RULE-BODY, RULES-AT, ROOMS-AT, SETTINGS-AT, SETTINGS-END, SETS-AT, CONTENT-AT, COUNT-AT, SET-WIDTH, RULE-WIDTH}
 use Rattle.meaning.specs.Basics.{is_zero, word, part}
 use Rattle.std.specs.Prelude.{if◌then◌else◌}
-use Rattle.meaning.specs.Settings.{Rooms, rooms_of, bytes_needed}
+use Rattle.meaning.specs.Settings.{rooms_of, bytes_needed}
 use Rattle.meaning.specs.Rules.{Rule}
 use Rattle.meaning.specs.Plan.{Plan, rooms_in}
 use Rattle.buffer.specs.Zeros.{zeros}

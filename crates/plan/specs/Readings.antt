@@ -1,13 +1,14 @@
 -- What the readers of the plan memory give, as the fields that callers use.
-use Rattle.std.specs.Prelude.{ℕ, ◌+◌, ◌*◌, ◌≤◌, ◌<◌, ◌≡◌, List, length, take, T}
+use Rattle.std.specs.Prelude.{ℕ, ◌+◌, ◌*◌, ◌≤◌, ◌<◌, ◌≡◌, List, length, get_or, T}
 use Rattle.std.proofs.Math.Option.{some}
-use Rattle.meaning.specs.Sizes.{CONTENT-BYTES, FILTER-BYTES, SETS-AT, SET-WIDTH, RULE-WIDTH}
+use Rattle.meaning.specs.Sizes.{CONTENT-BYTES, SETS-AT, SET-WIDTH, RULE-WIDTH}
 use Rattle.meaning.specs.Basics.{part}
 use Rattle.meaning.specs.Filters.{filter_of}
 use Rattle.meaning.specs.Rules.{Rule, filter_in}
 use Rattle.meaning.specs.Actions.{actions_of}
 use Rattle.meaning.specs.Groups.{fit}
 use Rattle.meaning.specs.Plan.{Plan, held, content_passes}
+use Rattle.meaning.specs.History.{no_rule}
 use Rattle.filter.specs.Slots.{FilterBytes, rules_of, RuleArea}
 use Rattle.plan.specs.Layout.{set_room, rule_room, rule_count, plan_of}
 
@@ -36,6 +37,10 @@ pub record Content (p : Plan) (n : ℕ) (r : List ℕ) : Type 0 where
   pub size : length r ≡ CONTENT-BYTES
 
 -- THE RULE AT A PLACE
+
+-- the rule at a place of the listing
+abbrev pub rule_placed : List ℕ → ℕ → Rule
+rule_placed m k = get_or (plan_of m).rules k no_rule
 
 -- s is the slot of rule r
 pub record RuleSlot (r : Rule) (s : List ℕ) : Type 0 where

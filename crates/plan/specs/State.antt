@@ -1,5 +1,5 @@
 -- Which memories are sound, and the plan that one holds: "sound" as document 01 and docs/LAYOUT.md say.
-use Rattle.std.specs.Prelude.{ℕ, Bool, List, [], ◌∷◌, ◌++◌, length, take, drop, leb}
+use Rattle.std.specs.Prelude.{ℕ, Bool, List, [], ◌∷◌, length, take, drop, leb}
 use Rattle.std.proofs.Math.Option.{Option, none, some}
 use Rattle.meaning.specs.Sizes.{SETS-AT}
 use Rattle.meaning.specs.Basics.{all_of, same_bytes}

@@ -1,7 +1,7 @@
 // The plan memory: readers in the plan's own words, and the edits, over a sound plan.
 #![tactic(auto)]
 
-ghost use Rattle.std.specs.Prelude.{◌≡◌, true, ◌++◌, ◌+◌, ◌*◌, ◌≤◌, ◌<◌, length, take, drop, get_or};
+ghost use Rattle.std.specs.Prelude.{◌≡◌, true, MatchOption, ◌++◌, ◌+◌, ◌*◌, ◌≤◌, ◌<◌, length, take, drop, get_or};
 ghost use Rattle.std.proofs.Math.Option.{none, some};
 ghost use Rattle.meaning.specs.Sizes.{ROOMS-BYTES, SETTINGS-BYTES, CONTENT-BYTES, FILTER-BYTES, HEADER-BYTES, SETS-AT, SET-WIDTH, RULE-WIDTH};
 ghost use Rattle.meaning.specs.Basics.{is_some, count, word};
@@ -15,7 +15,7 @@ ghost use Rattle.buffer.specs.Slots.{insert_at, remove_at};
 ghost use Rattle.filter.specs.Slots.{rules_of, RuleArea};
 ghost use Rattle.plan.specs.Layout.{header_image, slot_image, rule_image, image, set_room, rule_room, rule_count, plan_of};
 ghost use Rattle.plan.specs.State.{sound_of, rest_of};
-ghost use Rattle.plan.specs.Readings.{Number, RulesStart, RulesPart, Content, RuleSlot, Prefix, NamedContent};
+ghost use Rattle.plan.specs.Readings.{Number, RulesStart, RulesPart, Content, RuleSlot, Prefix, NamedContent, rule_placed};
 ghost use Rattle.plan.specs.Edits.{rule_with, renamed_at};
 
 use meaning::sizes::{
@@ -30,57 +30,14 @@ pub const MARK: [u8; 4] = [78, 80, 80, 50];
 // The place of the second of the two rooms.
 const RULE_ROOM_AT: usize = ROOMS_AT + 2;
 
+// A memory that holds a sound plan.
+#[derive(Clone, Copy)]
+pub struct SoundPlan<'a> {
+    pub memory: &'a [u8],
+    ghost sound: { sound_of memory.now ≡ true },
+}
+
 // READERS
-
-// The room for sets.
-pub fn set_room(memory: &[u8]) -> usize
-    requires { HEADER-BYTES ≤ length memory.now }
-    ensures { Number (set_room memory.now) result }
-{
-    buffer::word(memory, ROOMS_AT)
-}
-
-// The room for rules.
-pub fn rule_room(memory: &[u8]) -> usize
-    requires { HEADER-BYTES ≤ length memory.now }
-    ensures { Number (rule_room memory.now) result }
-{
-    buffer::word(memory, RULE_ROOM_AT)
-}
-
-// The count of rules held.
-pub fn rule_count(memory: &[u8]) -> usize
-    requires { HEADER-BYTES ≤ length memory.now }
-    ensures { Number (rule_count memory.now) result }
-{
-    buffer::word(memory, RULES_AT)
-}
-
-// The settings of the opening.
-pub fn settings(memory: &[u8]) -> &[u8]
-    requires { HEADER-BYTES ≤ length memory.now }
-    ensures { result.now ≡ (plan_of memory.now).settings }
-{
-    &memory[SETTINGS_AT..SETTINGS_END]
-}
-
-// Where the rule slots begin.
-fn rules_start(memory: &[u8]) -> usize
-    requires { sound_of memory.now ≡ true }
-    ensures { RulesStart memory.now result }
-{
-    SETS_AT + SET_WIDTH * set_room(memory)
-}
-
-// The rule slots, free ones too.
-pub fn rules<'a>(memory: &'a [u8]) -> &'a [u8]
-    requires { sound_of memory.now ≡ true }
-    ensures { RulesPart memory.now result.now }
-{
-    let a = rules_start(memory);
-    let e = a + RULE_WIDTH * rule_room(memory);
-    &memory[a..e]
-}
 
 // The set number at a place of some bytes.
 pub fn set_number(bytes: &[u8], at: usize) -> SetNumber
@@ -90,14 +47,6 @@ pub fn set_number(bytes: &[u8], at: usize) -> SetNumber
     SetNumber(buffer::word(bytes, at) as u16)
 }
 
-// Whether a set number is at or over the room.
-pub fn is_over_room(memory: &[u8], set: SetNumber) -> bool
-    requires { HEADER-BYTES ≤ length memory.now }
-    ensures { result ≡ over_room (plan_of memory.now) set.0 }
-{
-    set_room(memory) <= set.0 as usize
-}
-
 // Where the slot of a set number begins.
 fn set_start(set: SetNumber) -> usize
     ensures { result ≡ SETS-AT + SET-WIDTH * set.0 }
@@ -105,92 +54,154 @@ fn set_start(set: SetNumber) -> usize
     SETS_AT + SET_WIDTH * (set.0 as usize)
 }
 
-// Whether a set is held; a number over the room for sets never is.
-pub fn is_held(memory: &[u8], set: SetNumber) -> bool
-    requires { sound_of memory.now ≡ true }
-    ensures { result ≡ is_some (held (plan_of memory.now) set.0) }
-{
-    if is_over_room(memory, set) {
-        return false;
-    }
-    let at = set_start(set);
-    memory[at] != 0
-}
-
-// The content of a set that is held.
-pub fn content<'a>(memory: &'a [u8], set: SetNumber) -> &'a [u8]
-    requires { (sound_of memory.now ≡ true) × (is_some (held (plan_of memory.now) set.0) ≡ true) }
-    ensures { Content (plan_of memory.now) set.0 result.now }
-{
-    let slot = set_start(set);
-    let a = slot + CONTENT_AT;
-    let e = slot + COUNT_AT;
-    &memory[a..e]
-}
-
-// The set that the rule at a place names.
-pub fn set_named(memory: &[u8], place: RulePlace) -> SetNumber
-    requires { (sound_of memory.now ≡ true) × (place.0 < rule_count memory.now) }
-    ensures { result ≡ set_of (get_or (plan_of memory.now).rules place.0 no_rule).set }
-{
-    filter::set_at(rules(memory), place)
-}
-
-// The slot of the rule at a place.
-pub fn rule_slot<'a>(memory: &'a [u8], place: RulePlace) -> &'a [u8]
-    requires { (sound_of memory.now ≡ true) × (place.0 < rule_count memory.now) }
-    ensures slot { RuleSlot (get_or (plan_of memory.now).rules place.0 no_rule) result.now }
-    ensures code { take FILTER-BYTES result.now ≡ (get_or (plan_of memory.now).rules place.0 no_rule).code }
-{
-    let area = rules(memory);
-    let k = place.0 as usize;
-    let a = RULE_WIDTH * k;
-    let e = a + RULE_WIDTH;
-    &area[a..e]
-}
-
-// How many digits the prefix of the rule at a place has.
-pub fn prefix_at(memory: &[u8], place: RulePlace) -> usize
-    requires { (sound_of memory.now ≡ true) × (place.0 < rule_count memory.now) }
-    ensures { Prefix (get_or (plan_of memory.now).rules place.0 no_rule) result }
-{
-    let slot = rule_slot(memory, place);
-    buffer::wide(slot[PREFIX_AT])
-}
-
-// The content of the set that the rule at a place names.
-pub fn content_at<'a>(memory: &'a [u8], place: RulePlace) -> &'a [u8]
-    requires { (sound_of memory.now ≡ true) × (place.0 < rule_count memory.now) }
-    ensures { NamedContent (plan_of memory.now) (get_or (plan_of memory.now).rules place.0 no_rule) result.now }
-{
-    let set = set_named(memory, place);
-    content(memory, set)
-}
-
 // How many of the first `held` rules of an area name a set.
 fn naming(area: &[u8], held: usize, set: SetNumber) -> usize
     requires { RuleArea held area.now }
     ensures { result ≡ count (names set.0) (rules_of held area.now) }
 {
-    let wanted = set.0;
     let mut n: usize = 0;
-    let mut i: usize = 0;
-    while i < held {
+    for i in 0..held {
         let named = filter::set_at(area, RulePlace(i as u16));
-        if named.0 == wanted {
+        if named.0 == set.0 {
             n += 1;
         }
-        i += 1;
     }
     n
 }
 
-// The count of rules naming a set.
-pub fn referrers(memory: &[u8], set: SetNumber) -> usize
-    requires { sound_of memory.now ≡ true }
-    ensures { result ≡ referrers (plan_of memory.now) set.0 }
-{
-    naming(rules(memory), rule_count(memory), set)
+impl<'a> SoundPlan<'a> {
+    // The room for sets.
+    pub fn set_room(self) -> usize
+        ensures { Number (set_room self.entry.memory.now) result }
+    {
+        buffer::word(self.memory, ROOMS_AT)
+    }
+
+    // The room for rules.
+    pub fn rule_room(self) -> usize
+        ensures { Number (rule_room self.entry.memory.now) result }
+    {
+        buffer::word(self.memory, RULE_ROOM_AT)
+    }
+
+    // The count of rules held.
+    pub fn rule_count(self) -> usize
+        ensures { Number (rule_count self.entry.memory.now) result }
+    {
+        buffer::word(self.memory, RULES_AT)
+    }
+
+    // The settings of the opening.
+    pub fn settings(self) -> &'a [u8]
+        ensures { result.now ≡ (plan_of self.entry.memory.now).settings }
+    {
+        &self.memory[SETTINGS_AT..SETTINGS_END]
+    }
+
+    // Where the rule slots begin.
+    fn rules_start(self) -> usize
+        ensures { RulesStart self.entry.memory.now result }
+    {
+        SETS_AT + SET_WIDTH * self.set_room()
+    }
+
+    // The rule slots, free ones too.
+    pub fn rules(self) -> &'a [u8]
+        ensures { RulesPart self.entry.memory.now result.now }
+    {
+        let a = self.rules_start();
+        let e = a + RULE_WIDTH * self.rule_room();
+        &self.memory[a..e]
+    }
+
+    // Whether a set number is at or over the room.
+    pub fn is_over_room(self, set: SetNumber) -> bool
+        ensures { result ≡ over_room (plan_of self.entry.memory.now) set.0 }
+    {
+        self.set_room() <= set.0 as usize
+    }
+
+    // Whether a set is held; a number over the room for sets never is.
+    pub fn is_held(self, set: SetNumber) -> bool
+        ensures { result ≡ is_some (held (plan_of self.entry.memory.now) set.0) }
+    {
+        if self.is_over_room(set) {
+            return false;
+        }
+        let at = set_start(set);
+        self.memory[at] != 0
+    }
+
+    // The content of a set that is held.
+    pub fn content(self, set: SetNumber) -> &'a [u8]
+        requires { is_some (held (plan_of self.memory.now) set.0) ≡ true }
+        ensures { Content (plan_of self.entry.memory.now) set.0 result.now }
+    {
+        let slot = set_start(set);
+        let a = slot + CONTENT_AT;
+        let e = slot + COUNT_AT;
+        &self.memory[a..e]
+    }
+
+    // The rule at a place of the listing, if it is there.
+    pub fn rule(self, place: RulePlace) -> Option<HeldRule<'a>>
+        ensures { MatchOption result (rule_count self.entry.memory.now ≤ place.0) (λ r. (r.plan.memory.now ≡ self.entry.memory.now) × (r.place ≡ place)) }
+    {
+        if self.rule_count() <= place.0 as usize {
+            return None;
+        }
+        Some(HeldRule { plan: self, place })
+    }
+
+    // The count of rules naming a set.
+    pub fn referrers(self, set: SetNumber) -> usize
+        ensures { result ≡ referrers (plan_of self.entry.memory.now) set.0 }
+    {
+        naming(self.rules(), self.rule_count(), set)
+    }
+}
+
+// A rule of a sound plan, by its place in the listing.
+#[derive(Clone, Copy)]
+pub struct HeldRule<'a> {
+    pub plan: SoundPlan<'a>,
+    pub place: RulePlace,
+    ghost held: { place.0 < rule_count plan.memory.now },
+}
+
+impl<'a> HeldRule<'a> {
+    // The set that it names.
+    pub fn set(self) -> SetNumber
+        ensures { result ≡ set_of (rule_placed self.entry.plan.memory.now self.entry.place.0).set }
+    {
+        filter::set_at(self.plan.rules(), self.place)
+    }
+
+    // Its slot, which begins with its filter.
+    pub fn slot(self) -> &'a [u8]
+        ensures slot { RuleSlot (rule_placed self.entry.plan.memory.now self.entry.place.0) result.now }
+        ensures code { take FILTER-BYTES result.now ≡ (rule_placed self.entry.plan.memory.now self.entry.place.0).code }
+    {
+        let area = self.plan.rules();
+        let k = self.place.0 as usize;
+        let a = RULE_WIDTH * k;
+        let e = a + RULE_WIDTH;
+        &area[a..e]
+    }
+
+    // How many digits its prefix has.
+    pub fn prefix(self) -> usize
+        ensures { Prefix (rule_placed self.entry.plan.memory.now self.entry.place.0) result }
+    {
+        usize::from(self.slot()[PREFIX_AT])
+    }
+
+    // The content of the set that it names.
+    pub fn content(self) -> &'a [u8]
+        ensures { NamedContent (plan_of self.entry.plan.memory.now) (rule_placed self.entry.plan.memory.now self.entry.place.0) result.now }
+    {
+        self.plan.content(self.set())
+    }
 }
 
 // EDITS
@@ -263,8 +274,9 @@ pub fn insert_rule(memory: &mut [u8], place: RulePlace, code: &[u8], set: SetNum
 {
     let mut slot = [0u8; RULE_WIDTH];
     write_rule(&mut slot, code, set);
-    let a = rules_start(memory);
-    let n = rule_count(memory);
+    let plan = SoundPlan { memory };
+    let a = plan.rules_start();
+    let n = plan.rule_count();
     let k = place.0 as usize;
     buffer::insert_slot(&mut memory[a..], RULE_WIDTH, n, k, &slot);
     buffer::put_word(memory, RULES_AT, n + 1);
@@ -275,8 +287,9 @@ pub fn remove_rule(memory: &mut [u8], place: RulePlace)
     requires { (sound_of memory.old ≡ true) × (place.0 < rule_count memory.old) }
     ensures { memory.new ≡ image (with_rules (remove_at place.0 (plan_of memory.old).rules) (plan_of memory.old)) ++ rest_of memory.old }
 {
-    let a = rules_start(memory);
-    let n = rule_count(memory);
+    let plan = SoundPlan { memory };
+    let a = plan.rules_start();
+    let n = plan.rule_count();
     let k = place.0 as usize;
     buffer::remove_slot(&mut memory[a..], RULE_WIDTH, n, k);
     buffer::put_word(memory, RULES_AT, n - 1);
@@ -288,7 +301,7 @@ pub fn rename_rule(memory: &mut [u8], place: RulePlace, set: SetNumber)
     ensures { memory.new ≡ image (with_rules (renamed_at place.0 set.0 (plan_of memory.old).rules) (plan_of memory.old)) ++ rest_of memory.old }
 {
     let k = place.0 as usize;
-    let a = rules_start(memory) + RULE_WIDTH * k;
+    let a = SoundPlan { memory }.rules_start() + RULE_WIDTH * k;
     let e = a + RULE_WIDTH;
     buffer::put_word(&mut memory[a..e], SET_AT, set.0 as usize);
 }

@@ -21,9 +21,8 @@ use Rattle.meaning.proofs.Tests.{is_true, true_is, is_false, false_is, and_left,
 use Rattle.meaning.proofs.RuleLists.{in_order_insert}
 use Rattle.buffer.specs.Slots.{insert_at}
 use Rattle.filter.specs.Slots.{rules_of}
-use Rattle.filter.specs.Place.{absent, filter_place, place_given}
-use Rattle.meaning.specs.declared.FilterPlace.{FilterPlace}
-use Rattle.meaning.specs.declared.FilterPlace.TheVariants.{Held, Absent}
+use Rattle.filter.specs.Place.{filter_place, place_given}
+use Rattle.std.specs.Prelude.{Result, Ok, Err}
 use Rattle.meaning.specs.declared.RulePlace.{RulePlace}
 use Rattle.prices.specs.Layout.{row_image, prices_image, row_of, rows_in, prices_in_range, prices_of}
 use Rattle.prices.specs.Edits.{RowSlot, PlacesRow}
@@ -46,18 +45,18 @@ module _ (m s : List ℕ) (range : prices_in_range m ≡ true) (slot : RowSlot s
   passes : T (row_passes x)
   passes = true_is (row_passes x) slot.passes
 
-  module _ (n : ℕ) (n-is : n ≡ word m 0) (f : FilterPlace)
+  module _ (n : ℕ) (n-is : n ≡ word m 0) (f : Result RulePlace RulePlace)
       (f-is : place_given f ≡ filter_place (filter_of s) (rules_of n (take (length m - ROWS-AT) (drop ROWS-AT m)))) where
     place_is : place_given f ≡ filter_place (row_filter x) (map as_rule rs)
     place_is = f-is ∙ ap₂ filter_place (slot_asks s slot) (lent_rules m (in_range_is m range) n n-is)
 
-    pub row_taken : (k : RulePlace) → f ≡ Held k → PlacesRow m x m TAKEN
+    pub row_taken : (k : RulePlace) → f ≡ Ok k → PlacesRow m x m TAKEN
     row_taken k e =
         let p = (in_range_is m range).passes in
         let there : any (has_prefix x.prefix) rs ≡ true = held_row x passes rs p.rows p.order k.0 (sym place_is ∙ ap place_given e) in
         record { number_is = sym (rw there); memory_is = refl }
 
-    module _ (k : RulePlace) (e : f ≡ Absent k) where
+    module _ (k : RulePlace) (e : f ≡ Err k) where
       absent_there : AbsentRow x passes rs (in_range_is m range).passes.rows (in_range_is m range).passes.order k.0
       absent_there = let p = (in_range_is m range).passes in absent_row x passes rs p.rows p.order k.0 (sym place_is ∙ ap place_given e)
 

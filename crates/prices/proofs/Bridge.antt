@@ -1,71 +1,36 @@
--- What is tested of a lent list, slot by slot, is that it is in range: both ways, over bytes.
-use Prim.Native.Nat.{ℕ, ◌+◌, ◌-◌, ◌*◌, ◌≤◌}
+-- What is tested of a lent list is that it is in range: both ways, over bytes; and by what the tests gave.
+use Prim.Native.Nat.{ℕ, ◌+◌, ◌-◌, ◌*◌, ◌/◌, ◌≤◌}
 use mathlib.Core.Path.{◌≡◌, ap, ap₂, sym, ◌∙◌}
-use mathlib.Core.Bool.{Bool, ◌&&◌}
-use mathlib.Core.List.{List, [], ◌∷◌, ◌++◌, map, map-map}
+use mathlib.Core.Bool.{Bool, true, false}
+use mathlib.Core.List.{List, ◌++◌, map, map-map}
 use native.Mathlib.Omega.{arith}
-use lib.ListN.{length, take, drop, length-drop, take-append-drop}
+use lib.ListN.{length, take, drop, get_or, length-drop, take-append-drop}
 use lib.Seq.{drop_at, drop-drop}
-use lib.Dec.{T, leb→le, le→leb, eqb→eq}
+use lib.Dec.{T, lit<, leb, leb→le, le→leb, eqb→eq}
 use Rattle.meaning.specs.Sizes.{RULE-WIDTH, PRICE-ROOM, ROWS-AT, PRICES-BYTES}
 use Rattle.meaning.specs.Basics.{all, is_zero, word}
-use Rattle.meaning.specs.Filters.{filter_of, is_before}
-use Rattle.meaning.specs.Rules.{filter_in, rules_in_order}
+use Rattle.meaning.specs.Rules.{rules_in_order}
 use Rattle.meaning.specs.Prices.{row_passes, rows_in_order}
-use Rattle.meaning.proofs.Tests.{is_true, and_left, and_right, and_both, each_all, all_at, same_tests, same_self}
+use Rattle.meaning.proofs.Tests.{is_true, each_all, all_at, all_false, same_tests, same_self}
 use Rattle.buffer.specs.Zeros.{zeros}
 use Rattle.buffer.specs.Slots.{slots, flat}
 use Rattle.buffer.proofs.ZeroLaws.{all_zeros, zeros_pass}
-use Rattle.buffer.proofs.SlotLaws.{flat_slots}
+use Rattle.buffer.proofs.SlotLaws.{flat_slots, slots_part}
+use Rattle.buffer.proofs.Passing.{and-true}
+use Rattle.std.specs.Simd.{first_chunks}
+use borrow.Author.Tests.{eq-eqb, le-leb}
 use Rattle.blocks.proofs.EndianLaws.{Bytes, bytes_behind}
 use Rattle.filter.specs.Slots.{rule_of}
-use Rattle.filter.proofs.RuleLaws.{filter_in_lem}
 use Rattle.examiner.specs.Examined.{rising}
-use Rattle.examiner.proofs.Bytes.{word_again}
+use Rattle.examiner.proofs.Bytes.{word_again, part_slots}
 use Rattle.examiner.proofs.Rises.{rising_order, order_rising}
 use Rattle.examiner.proofs.Held.{Slots, cut_slots, reads_pass, images_are, images_pass}
 use Rattle.prices.specs.Layout.{row_image, prices_image, row_of, rows_in, prices_tests, prices_in_range}
-use Rattle.prices.specs.Examined.{row_test, next_test, following, slots_pass, examined_tests, examined}
+use Rattle.prices.specs.Examined.{row_test, rows_tests, rows_pass, examined_tests, examined}
 use Rattle.prices.proofs.RowSlots.{row_reads, row_image_lem, image_passes}
 use Rattle.prices.proofs.RowRules.{as_rule, order_same}
 use Rattle.prices.proofs.ImageLaws.{Passes, passes_of, rows_long, free, image_area, InRange, rows_many, in_range_is, slots_are}
 use Rattle.plan.specs.Layout.{word_bytes}
-
--- EACH SLOT AND THE NEXT
-
-next_rule : (s t : List ℕ) → is_before (filter_of s) (filter_of t) ≡ is_before (filter_in (rule_of s)) (filter_in (rule_of t))
-next_rule s t = ap₂ is_before (sym (filter_in_lem s)) (sym (filter_in_lem t))
-
--- slots of which each passes, and stands before the next, are rules that rise
-following_passes : (s : List ℕ) (ss : List (List ℕ)) → T (following s ss) → T (all row_test ss) × T (rising (map rule_of (s ∷ ss)))
-unfolding next_test
-following_passes s [] t = (tt, tt)
-following_passes s (x ∷ ss) t =
-    let before : Bool = is_before (filter_of s) (filter_of x) in
-    let here : T (row_test x && before) = and_left (row_test x && before) (following x ss) t in
-    let later = following_passes x ss (and_right (row_test x && before) (following x ss) t) in
-    let rises : T (is_before (filter_in (rule_of s)) (filter_in (rule_of x))) = rw (← next_rule s x) (and_right (row_test x) before here) in
-    (and_both (row_test x) (all row_test ss) (and_left (row_test x) before here) later.0, and_both (is_before (filter_in (rule_of s)) (filter_in (rule_of x))) (rising (map rule_of (x ∷ ss))) rises later.1)
-
-slots_passed : (ss : List (List ℕ)) → T (slots_pass ss) → T (all row_test ss) × T (rising (map rule_of ss))
-slots_passed [] t = (tt, tt)
-slots_passed (s ∷ ss) t =
-    let later = following_passes s ss (and_right (row_test s) (following s ss) t) in
-    (and_both (row_test s) (all row_test ss) (and_left (row_test s) (following s ss) t) later.0, later.1)
-
-passes_following : (s : List ℕ) (ss : List (List ℕ)) → T (all row_test ss) → T (rising (map rule_of (s ∷ ss))) → T (following s ss)
-unfolding next_test
-passes_following s [] t u = tt
-passes_following s (x ∷ ss) t u =
-    let rises : Bool = is_before (filter_in (rule_of s)) (filter_in (rule_of x)) in
-    let before : T (is_before (filter_of s) (filter_of x)) = rw (next_rule s x) (and_left rises (rising (map rule_of (x ∷ ss))) u) in
-    and_both (row_test x && is_before (filter_of s) (filter_of x)) (following x ss) (and_both (row_test x) (is_before (filter_of s) (filter_of x)) (and_left (row_test x) (all row_test ss) t) before)
-    (passes_following x ss (and_right (row_test x) (all row_test ss) t) (and_right rises (rising (map rule_of (x ∷ ss))) u))
-
-slots_pass_lem : (ss : List (List ℕ)) → T (all row_test ss) → T (rising (map rule_of ss)) → T (slots_pass ss)
-slots_pass_lem [] t u = tt
-slots_pass_lem (s ∷ ss) t u =
-    and_both (row_test s) (following s ss) (and_left (row_test s) (all row_test ss) t) (passes_following s ss (and_right (row_test s) (all row_test ss) t) u)
 
 -- THE WHOLE LIST
 
@@ -79,6 +44,9 @@ module _ (m : List ℕ) where
   abbrev held : List (List ℕ)
   held = slots RULE-WIDTH count area
 
+  abbrev behind : List ℕ
+  behind = drop (ROWS-AT + RULE-WIDTH * count) m
+
   -- a list that passes the tests
   module _ (t : T (examined m)) (b : Bytes m) where
     size : length m ≡ PRICES-BYTES
@@ -89,34 +57,39 @@ module _ (m : List ℕ) where
     unfolding examined
     few = leb→le count PRICE-ROOM (all_at 1 (examined_tests m) t)
 
-    slots_held : T (all row_test held) × T (rising (map rule_of held))
+    rows : T (rows_pass held behind)
     unfolding examined
-    slots_held = slots_passed held (all_at 2 (examined_tests m) t)
+    rows = all_at 2 (examined_tests m) t
+
+    slots_held : T (all row_test held)
+    unfolding rows_pass
+    slots_held = all_at 0 (rows_tests held behind) rows
 
     cut : Slots RULE-WIDTH held
     cut = cut_slots RULE-WIDTH count area (rw (length-drop ROWS-AT m) (omega (arith, size, few))) (bytes_behind ROWS-AT m b)
 
     images : map row_image (rows_in m) ≡ held
     unfolding rows_in
-    images = images_are RULE-WIDTH row_of row_image row_test row_passes (λ s l k u. row_image_lem s u l k) held cut slots_held.0
+    images = images_are RULE-WIDTH row_of row_image row_test row_passes (λ s l k u. row_image_lem s u l k) held cut slots_held
 
-    rows_pass : T (all row_passes (rows_in m))
+    each_passes : T (all row_passes (rows_in m))
     unfolding rows_in
-    rows_pass = reads_pass RULE-WIDTH row_of row_image row_test row_passes (λ s l u. row_reads s u) held cut slots_held.0
+    each_passes = reads_pass RULE-WIDTH row_of row_image row_test row_passes (λ s l u. row_reads s u) held cut slots_held
 
     in_order : T (rows_in_order (rows_in m))
+    unfolding rows_pass
     in_order =
         let rules : map rule_of held ≡ map as_rule (rows_in m) = ap (map rule_of) (sym images) ∙ map-map rule_of row_image (rows_in m) in
-        let rises : T (rules_in_order (map as_rule (rows_in m))) = rw (← rules) (rising_order (map rule_of held) slots_held.1) in
-        rw (← order_same (rows_in m) rows_pass) rises
+        let rises : T (rules_in_order (map as_rule (rows_in m))) = rw (← rules) (rising_order (map rule_of held) (all_at 1 (rows_tests held behind) rows)) in
+        rw (← order_same (rows_in m) each_passes) rises
 
     passed : Passes (rows_in m)
-    passed = record { few = rw (← rows_many m) few; rows = rows_pass; order = in_order }
+    passed = record { few = rw (← rows_many m) few; rows = each_passes; order = in_order }
 
     unused : drop (RULE-WIDTH * count) area ≡ free count
-    unfolding examined
+    unfolding rows_pass
     unused =
-        let t : T (all is_zero (drop (ROWS-AT + RULE-WIDTH * count) m)) = all_at 3 (examined_tests m) t in
+        let t : T (all is_zero behind) = all_at 2 (rows_tests held behind) rows in
         let long : length (drop (ROWS-AT + RULE-WIDTH * count) m) ≡ RULE-WIDTH * (PRICE-ROOM - count) = length-drop (ROWS-AT + RULE-WIDTH * count) m ∙ omega (arith, size, few) in
         drop-drop (RULE-WIDTH * count) ROWS-AT m ∙ (all_zeros (drop (ROWS-AT + RULE-WIDTH * count) m) t ∙ ap zeros long)
 
@@ -144,21 +117,35 @@ module _ (m : List ℕ) where
         let order : T (rules_in_order (map as_rule (rows_in m))) = rw (order_same (rows_in m) r.passes.rows) r.passes.order in
         rw rules (order_rising (map as_rule (rows_in m)) order)
 
-    behind : drop (ROWS-AT + RULE-WIDTH * count) m ≡ free (length (rows_in m))
-    behind =
+    behind_is : behind ≡ free (length (rows_in m))
+    behind_is =
         sym (drop-drop (RULE-WIDTH * count) ROWS-AT m) ∙ (ap₂ (λ (n : ℕ) (l : List ℕ). drop (RULE-WIDTH * n) l) r.count (ap (drop ROWS-AT) r.own ∙ image_area (rows_in m))
         ∙ drop_at (flat (map row_image (rows_in m))) (free (length (rows_in m))) (RULE-WIDTH * length (rows_in m)) (rows_long (rows_in m) r.passes.rows))
 
     range_passing : T (examined m)
-    unfolding examined
+    unfolding examined rows_pass
     range_passing =
-        each_all (examined_tests m) (
-          rw r.size tt,
-          (
-            le→leb count PRICE-ROOM (rw r.count r.passes.few),
-            (slots_pass_lem held tested rises, (rw behind (zeros_pass (RULE-WIDTH * (PRICE-ROOM - length (rows_in m)))), tt)),
-          ),
-        )
+        let zeros_behind : T (all is_zero behind) = rw behind_is (zeros_pass (RULE-WIDTH * (PRICE-ROOM - length (rows_in m)))) in
+        each_all (examined_tests m) (rw r.size tt, (le→leb count PRICE-ROOM (rw r.count r.passes.few), (each_all (rows_tests held behind) (tested, (rises, (zeros_behind, tt))), tt)))
 
-  pub examined_range : Bytes m → examined m ≡ prices_in_range m
-  examined_range b = same_tests (examined m) (prices_in_range m) (λ t. passing_range t b) (λ t. range_passing (in_range_is m (is_true (prices_in_range m) t)))
+  module _ (bytes : Bytes m) where
+    examined_range : examined m ≡ prices_in_range m
+    examined_range = same_tests (examined m) (prices_in_range m) (λ t. passing_range t bytes) (λ t. range_passing (in_range_is m (is_true (prices_in_range m) t)))
+
+    -- where test k fails, the list is out of range
+    pub out_of_range : (k : ℕ) → get_or (examined_tests m) k true ≡ false → false ≡ prices_in_range m
+    unfolding examined
+    out_of_range k e = sym (sym examined_range ∙ all_false k (examined_tests m) e)
+
+    -- b is what the rows and the bytes behind them gave, where the other tests have passed
+    pub rows_decide : {b : Bool} → length m ≡ PRICES-BYTES → count ≤ PRICE-ROOM → b ≡ rows_pass held behind → b ≡ prices_in_range m
+    unfolding examined
+    rows_decide size few b-is =
+        let small : leb count PRICE-ROOM ≡ true = le-leb count PRICE-ROOM few in
+        b-is ∙ sym (sym examined_range ∙ rw (eq-eqb (length m) PRICES-BYTES size, small, and-true))
+
+    -- the slots of the rows, in the bytes that are lent
+    pub rows_cut : length m ≡ PRICES-BYTES → count ≤ PRICE-ROOM
+        → first_chunks RULE-WIDTH (length (take (ROWS-AT + RULE-WIDTH * count - ROWS-AT) area) / RULE-WIDTH) (take (ROWS-AT + RULE-WIDTH * count - ROWS-AT) area) ≡ held
+    rows_cut size few =
+        part_slots RULE-WIDTH count ROWS-AT (RULE-WIDTH * PRICE-ROOM) m (lit< tt) (omega (arith, few)) (omega (arith, size, few)) ∙ slots_part RULE-WIDTH count (RULE-WIDTH * PRICE-ROOM) area (omega (arith, few))

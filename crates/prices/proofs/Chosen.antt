@@ -25,7 +25,7 @@ use Rattle.prices.specs.Layout.{row_image, row_of, rows_in}
 use Rattle.prices.specs.Examined.{row_test}
 use Rattle.prices.specs.Edits.{RowPrice}
 use Rattle.prices.specs.Promises.{GivesPrice}
-use Rattle.prices.specs.declared.Priced.TheVariants.{PerMinute, NoPrice}
+use Rattle.std.specs.Prelude.{Some, None}
 use Rattle.prices.proofs.RowSlots.{price_small, image_passes, slot_filter}
 use Rattle.prices.proofs.RowRules.{as_rule, chosen_same}
 use Rattle.prices.proofs.ImageLaws.{InRange, slots_are, rules_are, rules_order, area_is}
@@ -113,10 +113,10 @@ module _ (m : List ℕ) (r : InRange m) where
       pub chosen_inside : (k : ℕ) → o ≡ some k → k < length (rows_in m)
       chosen_inside k e = rw (length-map (rows_in m) as_rule) at (chosen_within 0 ds (map as_rule (rows_in m)) k (sym chosen_rule ∙ e))
 
-      pub priced : (k x : ℕ) → o ≡ some k → RowPrice m k x → GivesPrice m ds (PerMinute x)
+      pub priced : (k x : ℕ) → o ≡ some k → RowPrice m k x → GivesPrice m ds (Some x)
       unfolding price_for
       priced k x e p = record { is = sym (ap (price_at (rows_in m)) (chosen_row ∙ e) ∙ p.is); small = p.small }
 
-      pub unpriced : o ≡ none → GivesPrice m ds NoPrice
+      pub unpriced : o ≡ none → GivesPrice m ds None
       unfolding price_for
       unpriced e = record { is = sym (ap (price_at (rows_in m)) (chosen_row ∙ e)); small = zero-le }

@@ -1,5 +1,5 @@
 -- The image of rows that pass has the bytes of a price list, is in range and reads back; a list in range is the image of its rows, and its slots are those of rules.
-use Prim.Native.Nat.{ℕ, ◌+◌, ◌-◌, ◌*◌, ◌≤◌}
+use Prim.Native.Nat.{ℕ, ◌-◌, ◌*◌, ◌≤◌}
 use mathlib.Core.Path.{◌≡◌, refl, ap, ap₂, sym, subst, ◌∙◌}
 use mathlib.Core.Bool.{Bool, true, false}
 use mathlib.Core.List.{List, [], ◌∷◌, ◌++◌, map, map-map}
@@ -11,7 +11,7 @@ use Rattle.meaning.specs.Sizes.{PREFIX-AT, RULE-WIDTH, PRICE-ROOM, ROWS-AT, PRIC
 use Rattle.meaning.specs.Basics.{all, same_bytes, word}
 use Rattle.meaning.specs.Rules.{rules_in_order}
 use Rattle.meaning.specs.Prices.{PriceRow, row_passes, rows_in_order, list_tests, prices_pass}
-use Rattle.meaning.proofs.Tests.{is_true, true_is, and_left, and_right, each_all, all_at, same_self, same_bytes_lem}
+use Rattle.meaning.proofs.Tests.{is_true, true_is, and_left, and_right, each_all, all_at, all_weaken, same_self, same_bytes_lem}
 use Rattle.buffer.specs.Zeros.{zeros}
 use Rattle.buffer.specs.Slots.{slots, flat, Wide}
 use Rattle.buffer.proofs.ZeroLaws.{length_zeros, zeros_add}
@@ -21,7 +21,7 @@ use Rattle.plan.proofs.ImageLaws.{word_bytes_lem, two_unused}
 use Rattle.examiner.proofs.Held.{images_wide, images_pass}
 use Rattle.prices.specs.Layout.{row_image, prices_image, row_of, rows_in, prices_tests, prices_in_range, prices_of}
 use Rattle.prices.specs.Examined.{row_test}
-use Rattle.prices.proofs.RowSlots.{row_size, row_back, image_passes, slot_bytes}
+use Rattle.prices.proofs.RowSlots.{row_size, row_back, image_passes, slot_said}
 use Rattle.prices.proofs.RowRules.{as_rule, order_same}
 
 -- ROWS THAT PASS
@@ -43,9 +43,9 @@ rows_read : (rs : List PriceRow) → T (all row_passes rs) → map row_of (map r
 rows_read [] t = refl
 rows_read (r ∷ rs) t = ap₂ ◌∷◌ (row_back r (and_left (row_passes r) (all row_passes rs) t)) (rows_read rs (and_right (row_passes r) (all row_passes rs) t))
 
--- a slot that passes has a prefix of at most 16 digits
-pub prefix_fits_lem : (s : List ℕ) → length s ≡ RULE-WIDTH → T (row_test s) → T (prefix_fits s)
-prefix_fits_lem s size t = le→leb (get_or s PREFIX-AT 0) 16 (slot_bytes s t size).prefix
+-- slots that pass have prefixes of at most 16 digits
+pub slots_fit : (ss : List (List ℕ)) → T (all row_test ss) → T (all prefix_fits ss)
+slots_fit ss = all_weaken row_test prefix_fits ss (λ s t. le→leb (get_or s PREFIX-AT 0) 16 (slot_said s t))
 
 module _ (rs : List PriceRow) (t : T (all row_passes rs)) where
   pub rows_wide : Wide RULE-WIDTH (map row_image rs)
@@ -55,7 +55,7 @@ module _ (rs : List PriceRow) (t : T (all row_passes rs)) where
   rows_long = length_flat RULE-WIDTH (map row_image rs) rows_wide ∙ ap (λ n. RULE-WIDTH * n) (length-map rs row_image)
 
   pub rows_fit : T (all prefix_fits (map row_image rs))
-  rows_fit = images_pass RULE-WIDTH row_of row_image prefix_fits row_passes (λ r u. prefix_fits_lem (row_image r) (row_size r u) (image_passes r u)) rs t
+  rows_fit = slots_fit (map row_image rs) (images_pass RULE-WIDTH row_of row_image row_test row_passes image_passes rs t)
 
 -- THE IMAGE
 

@@ -2,7 +2,6 @@ pub mod RowSlots
 pub mod RowRules
 pub mod ImageLaws
 pub mod Bridge
-pub mod Walk
 pub mod Chosen
 pub mod RowEdits
 pub mod Adding

@@ -4,12 +4,12 @@ use mathlib.Core.Path.{◌≡◌, refl, ap, ap₂, sym, subst, ◌∙◌}
 use mathlib.Core.Bool.{true}
 use mathlib.Core.List.{List, [], ◌∷◌, ◌++◌, map, append_assoc, append-nil}
 use native.Mathlib.Omega.{arith}
-use lib.ListN.{length, take, drop, length-append, length-drop, drop_of_length-le}
-use lib.Seq.{drop_at, take_all, length-take-le}
+use lib.ListN.{length, take, drop, length-append, drop_of_length-le}
+use lib.Seq.{drop_at, length-take-le}
 use lib.Dec.{T, le→leb}
 use borrow.Rule.Slice.PartMut.{put_mid, mid_of}
 use Rattle.meaning.specs.Sizes.{PREFIX-AT, CODE-BYTES, PRICE-BODY, RULE-WIDTH, PRICE-ROOM, ROWS-AT, PRICE-AT}
-use Rattle.meaning.specs.Basics.{written_over, word, quad, digits_of, padded}
+use Rattle.meaning.specs.Basics.{word, quad, digits_of, padded}
 use Rattle.meaning.specs.Filters.{filter_of}
 use Rattle.meaning.specs.Prices.{PriceRow, row_given, row_ranges, row_in_range, row_passes}
 use Rattle.meaning.proofs.Tests.{true_is, each_all, all_at, digits_few}
@@ -20,7 +20,7 @@ use Rattle.buffer.proofs.ZeroLaws.{length_zeros, zeros_add}
 use Rattle.buffer.proofs.ListLaws.{rest_is, rest_back, map_insert, length_insert}
 use Rattle.blocks.proofs.EndianLaws.{Bytes}
 use Rattle.filter.specs.Slots.{FilterBytes}
-use Rattle.plan.proofs.EditLaws.{put_whole, mid_between, put_between}
+use Rattle.plan.proofs.EditLaws.{put_between}
 use Rattle.prices.specs.Layout.{quad_bytes, row_image, prices_image, row_of, rows_in}
 use Rattle.prices.specs.Edits.{RowSlot}
 use Rattle.prices.proofs.RowSlots.{code_digits, code_back, quad_again, pass_tests, row_size, row_back, image_passes, row_filter, slot_filter, slot_bytes}
@@ -49,7 +49,7 @@ module _ (b : List ℕ) (t : T (row_in_range b)) where
       sym (append-nil (quad_bytes (quad b CODE-BYTES))) ∙ (ap (λ (l : List ℕ). quad_bytes (quad b CODE-BYTES) ++ l) (sym none) ∙ quad_again b CODE-BYTES (omega arith) bytes) in
       ap₂ (λ (x y : List ℕ). 0 ∷ x ++ (0 ∷ y ++ (0 ∷ []))) code price
 
--- THE SLOT WRITTEN: z is what clearing left, y and x what copying left of the two parts lent
+-- THE SLOT WRITTEN: z is the empty slot, y and x what copying left of the two parts lent
 
 one_unused : zeros 1 ≡ 0 ∷ []
 unfolding zeros
@@ -58,9 +58,7 @@ one_unused = refl
 slot_parts : zeros 1 ++ (zeros CODE-BYTES ++ (zeros 1 ++ (zeros 4 ++ zeros 1))) ≡ zeros RULE-WIDTH
 slot_parts = rw (zeros_add 4 1, zeros_add 1 5, zeros_add CODE-BYTES 6, zeros_add 1 (CODE-BYTES + 6))
 
-module _ (slot z y x b : List ℕ) (slot_size : length slot ≡ RULE-WIDTH) (size : length b ≡ PRICE-BODY) (z-is : z ≡ zeros (length slot))
-    (y-is : y ≡ written_over (take CODE-BYTES b) (mid_of PREFIX-AT CODE-BYTES z))
-    (x-is : x ≡ written_over (take 4 (drop CODE-BYTES b)) (mid_of PRICE-AT 4 (put_mid PREFIX-AT CODE-BYTES z y))) where
+module _ (z y x b : List ℕ) (size : length b ≡ PRICE-BODY) (z-is : z ≡ zeros RULE-WIDTH) (y-is : y ≡ take CODE-BYTES b) (x-is : x ≡ take (length b - CODE-BYTES) (drop CODE-BYTES b)) where
   abbrev code : List ℕ
   code = take CODE-BYTES b
 
@@ -70,19 +68,11 @@ module _ (slot z y x b : List ℕ) (slot_size : length slot ≡ RULE-WIDTH) (siz
   code_long : length code ≡ CODE-BYTES
   code_long = length-take-le CODE-BYTES b (omega arith)
 
-  price_long : length price ≡ 4
-  price_long = length-drop CODE-BYTES b ∙ omega arith
-
   abbrev unused : List ℕ
   unused = zeros 1 ++ (zeros 4 ++ zeros 1)
 
   cleared : z ≡ zeros 1 ++ (zeros CODE-BYTES ++ unused)
-  cleared = z-is ∙ (ap zeros slot_size ∙ sym slot_parts)
-
-  coded : y ≡ code
-  coded =
-      y-is ∙ (ap (λ (l : List ℕ). written_over code (mid_of PREFIX-AT CODE-BYTES l)) cleared
-      ∙ (ap (written_over code) (mid_between PREFIX-AT CODE-BYTES (zeros 1) (zeros CODE-BYTES) unused (length_zeros 1) (length_zeros CODE-BYTES)) ∙ put_whole code CODE-BYTES code_long))
+  cleared = z-is ∙ sym slot_parts
 
   -- what stands before the price
   abbrev front : List ℕ
@@ -93,17 +83,12 @@ module _ (slot z y x b : List ℕ) (slot_size : length slot ≡ RULE-WIDTH) (siz
 
   half : put_mid PREFIX-AT CODE-BYTES z y ≡ front ++ (zeros 4 ++ zeros 1)
   half =
-      ap₂ (put_mid PREFIX-AT CODE-BYTES) cleared coded
+      ap₂ (put_mid PREFIX-AT CODE-BYTES) cleared y-is
       ∙ (put_between PREFIX-AT CODE-BYTES (zeros 1) (zeros CODE-BYTES) unused (length_zeros 1) (length_zeros CODE-BYTES) code ∙ sym (simp append_assoc))
-
-  priced : x ≡ price
-  priced =
-      x-is ∙ (ap₂ (λ (p l : List ℕ). written_over p (mid_of PRICE-AT 4 l)) (take_all 4 price (omega (arith, price_long))) half
-      ∙ (ap (written_over price) (mid_between PRICE-AT 4 front (zeros 4) (zeros 1) front_long (length_zeros 4)) ∙ put_whole price 4 price_long))
 
   slot_left : put_mid PRICE-AT 4 (put_mid PREFIX-AT CODE-BYTES z y) x ≡ 0 ∷ code ++ (0 ∷ price ++ (0 ∷ []))
   slot_left =
-      ap₂ (put_mid PRICE-AT 4) half priced
+      ap₂ (put_mid PRICE-AT 4) half (x-is ∙ rest_is CODE-BYTES b)
       ∙ (put_between PRICE-AT 4 front (zeros 4) (zeros 1) front_long (length_zeros 4) price ∙ rw one_unused (append_assoc (0 ∷ code) (0 ∷ []) (price ++ (0 ∷ []))))
 
   pub row_written : row_in_range b ≡ true → Bytes b → put_mid PRICE-AT 4 (put_mid PREFIX-AT CODE-BYTES z y) x ≡ row_image (row_given b)

@@ -188,14 +188,17 @@ module _ (s : List ℕ) (t : T (row_test s)) where
       let range : T (digits_in_range 0 16 c) = all_at 3 (row_tests s) t in
       each_all (pass_tests (row_of s)) (le→leb (length (digits_of c)) 16 (digits_few 0 16 c range), (code_digits c range, (all_at 4 (row_tests s) t, tt)))
 
+  pub slot_said : get_or s PREFIX-AT 0 ≤ 16
+  unfolding row_test
+  slot_said =
+      let c : List ℕ = part PREFIX-AT CODE-BYTES s in
+      let said : get_or c 0 0 ≤ 16 = digits_said 0 16 c (all_at 3 (row_tests s) t) in
+      let same : get_or c 0 0 ≡ get_or s PREFIX-AT 0 = get_or-take CODE-BYTES (drop PREFIX-AT s) 0 0 (lit< tt) ∙ get_or-drop PREFIX-AT s 0 0 in
+      omega arith
+
   module _ (size : length s ≡ RULE-WIDTH) where
     pub slot_bytes : FilterBytes s
-    unfolding row_test
-    slot_bytes =
-        let c : List ℕ = part PREFIX-AT CODE-BYTES s in
-        let said : get_or c 0 0 ≤ 16 = digits_said 0 16 c (all_at 3 (row_tests s) t) in
-        let same : get_or c 0 0 ≡ get_or s PREFIX-AT 0 = get_or-take CODE-BYTES (drop PREFIX-AT s) 0 0 (lit< tt) ∙ get_or-drop PREFIX-AT s 0 0 in
-        record { whole = omega arith; prefix = omega arith }
+    slot_bytes = record { whole = omega arith; prefix = slot_said }
 
     pub row_image_lem : Bytes s → row_image (row_of s) ≡ s
     unfolding row_test row_image row_of

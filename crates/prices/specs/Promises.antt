@@ -1,24 +1,22 @@
 -- What the calls about a price list promise.
-use Rattle.std.specs.Prelude.{ℕ, ◌≤◌, ◌≡◌, List}
+use Rattle.std.specs.Prelude.{ℕ, ◌≤◌, ◌≡◌, List, Option as Optional, Some, None}
 use Rattle.std.proofs.Math.Option.{Option, none, some}
 use Rattle.meaning.specs.Prices.{PriceRow, PRICE-LIMIT, price_for, price_refusal, rows_after}
 use Rattle.prices.specs.Layout.{prices_image, rows_in, prices_of}
-use Rattle.prices.specs.declared.Priced.{Priced}
-use Rattle.prices.specs.declared.Priced.TheVariants.{PerMinute, NoPrice}
 
 -- THE PRICE OF A CALL
 
-abbrev pub priced_of : Priced → Option ℕ
-priced_of (PerMinute p) = some p
-priced_of NoPrice = none
+abbrev pub priced_of : Optional ℕ → Option ℕ
+priced_of (Some p) = some p
+priced_of None = none
 
 -- the price that is given; 0 where none is
-abbrev pub per_minute : Priced → ℕ
-per_minute (PerMinute p) = p
-per_minute NoPrice = 0
+abbrev pub per_minute : Optional ℕ → ℕ
+per_minute (Some p) = p
+per_minute None = 0
 
 -- the price of a call to some digits, "up to 1,000,000 thousandths of a cent"
-pub record GivesPrice (m ds : List ℕ) (r : Priced) : Type 0 where
+pub record GivesPrice (m ds : List ℕ) (r : Optional ℕ) : Type 0 where
   pub is : priced_of r ≡ price_for (rows_in m) ds
   pub small : per_minute r ≤ PRICE-LIMIT
 

@@ -45,12 +45,12 @@ module _ (p : Plan) (b : List ℕ) where
 -- RULES: the filter is in range, and there or not
 
 module _ (m b : List ℕ) (s : sound_of m ≡ true) where
-  gives : length b ≡ RULE-BODY → T (not (over_room (plan_of m) (set_given b) || not (filter_in_range (code_given b)))) → GivesFilter m b
-  gives size t = in_range s size refl (is_false (over_room (plan_of m) (set_given b) || not (filter_in_range (code_given b))) t)
+  gives : length b ≡ RULE-BODY → T (not (over_room (plan_of m) (set_given b) || not (filter_in_range (code_given b)))) → GivesFilter b
+  gives size t = in_range _ size refl (is_false (over_room (plan_of m) (set_given b) || not (filter_in_range (code_given b))) t)
 
   module _ (size : length b ≡ RULE-BODY) where
     pub added_rule : first_of (add_rule_lines (plan_of m) b) ≡ 0
-        → GivesFilter m b × (length b ≡ RULE-BODY) × (holds_filter (plan_of m) (code_given b) ≡ false) × (eqb (length (plan_of m).rules) (rooms_in (plan_of m)).rules ≡ false)
+        → GivesFilter b × (length b ≡ RULE-BODY) × (holds_filter (plan_of m) (code_given b) ≡ false) × (eqb (length (plan_of m).rules) (rooms_in (plan_of m)).rules ≡ false)
     unfolding add_rule_lines
     added_rule e = (
       gives size (passed_at 0 (add_rule_lines (plan_of m) b) tt e),
@@ -59,7 +59,7 @@ module _ (m b : List ℕ) (s : sound_of m ≡ true) where
       is_false (eqb (length (plan_of m).rules) (rooms_in (plan_of m)).rules) (passed_at 4 (add_rule_lines (plan_of m) b) tt e),
     )
 
-    pub changed_rule_lem : first_of (change_rule_lines (plan_of m) b) ≡ 0 → GivesFilter m b × (length b ≡ RULE-BODY) × (holds_filter (plan_of m) (code_given b) ≡ true)
+    pub changed_rule_lem : first_of (change_rule_lines (plan_of m) b) ≡ 0 → GivesFilter b × (length b ≡ RULE-BODY) × (holds_filter (plan_of m) (code_given b) ≡ true)
     unfolding change_rule_lines
     changed_rule_lem e =
         let there : Bool = holds_filter (plan_of m) (code_given b) in
@@ -69,12 +69,12 @@ module _ (m b : List ℕ) (s : sound_of m ≡ true) where
           is_true there (and_left there held_set (not_not (there && held_set) (passed_at 1 (change_rule_lines (plan_of m) b) tt e))),
         )
 
-  pub removed_rule_lem : length b ≡ FILTER-BYTES → first_of (remove_rule_lines (plan_of m) b) ≡ 0 → GivesFilter m b × (holds_filter (plan_of m) (code_given b) ≡ true)
+  pub removed_rule_lem : length b ≡ FILTER-BYTES → first_of (remove_rule_lines (plan_of m) b) ≡ 0 → GivesFilter b × (holds_filter (plan_of m) (code_given b) ≡ true)
   unfolding remove_rule_lines
   removed_rule_lem size e =
       let range : Bool = filter_in_range (code_given b) in
       let there : Bool = holds_filter (plan_of m) (code_given b) in (
-        record { sound = s; whole = omega arith; range = is_true range (not_not range (passed_at 0 (remove_rule_lines (plan_of m) b) tt e)) },
+        record { whole = omega arith; range = is_true range (not_not range (passed_at 0 (remove_rule_lines (plan_of m) b) tt e)) },
         is_true there (not_not there (passed_at 1 (remove_rule_lines (plan_of m) b) tt e)),
       )
 

@@ -16,7 +16,7 @@ use Rattle.blocks.proofs.OverLaws.{length_over}
 use Rattle.prices.proofs.ImageLaws.{in_range_is}
 use Rattle.record.specs.Turns.{turn}
 use Rattle.record.specs.Cuts.{Cut}
-use Rattle.record.specs.Promises.{Lent, lent, house_of, InHouse, written_by, whole_behind, text_of, StepPromise, Runs, next, last, RunEnd, run_end_here, run_end_behind}
+use Rattle.record.specs.Promises.{Lent, lent, house_of, InHouse, ending_number, written_by, whole_behind, text_of, StepPromise, Runs, next, last, RunEnd, run_end_here, run_end_behind}
 use Rattle.record.specs.declared.Run.{Run}
 use Rattle.record.specs.declared.Line.{Line}
 use Rattle.record.specs.declared.Last.{Last}
@@ -24,7 +24,9 @@ use Rattle.record.specs.declared.Stepped.{Stepped}
 use Rattle.record.specs.declared.Stepped.TheVariants.{Wrote, Wants, Full, Ends}
 use Rattle.record.proofs.Steps.{wants_keeps, full_keeps, ends_keeps, next_in_house, taken_inside}
 use Rattle.pump.proofs.StepFacts.{writes_some, step_size}
-use Rattle.pump.specs.Pumps.{pumped_as, PumpPromise}
+use Rattle.pump.specs.Pumps.{pumped_as, is_full, is_over, refusal_of, PumpPromise}
+use Rattle.pump.specs.declared.Stop.{Stop}
+use Rattle.pump.specs.declared.Stop.TheVariants.{Wants as Wanting, Full as Filled, Over}
 
 -- THE PARTS THAT ARE LENT
 
@@ -59,6 +61,18 @@ both_before a b e = rw (add_assoc a b e.place)
 -- no step could be taken: there is no room for a line, or no whole record is left
 abbrev stopped : Bool → Stepped
 stopped full = if full then Full else Wants
+
+abbrev stop : Bool → Stop
+stop full = if full then Filled else Wanting
+
+record StopsAs (full : Bool) : Type 0 where
+  pub fills : is_full (stop full) ≡ full
+  pub goes : is_over (stop full) ≡ false
+  pub none : refusal_of (stop full) ≡ 0
+
+stops_as : (full : Bool) → StopsAs full
+stops_as true = record { fills = refl; goes = refl; none = refl }
+stops_as false = record { fills = refl; goes = refl; none = refl }
 
 stopped_none : (full : Bool) → written_by (stopped full) ≡ 0
 stopped_none true = refl
@@ -181,16 +195,17 @@ module _ {m now : Lent} {run so : Run} {ended : Bool} {input out left : List ℕ
 
   -- nothing was written, and the memory is as it was
   going_stops : (full : Bool) {after : Lent} {back : List ℕ} → Step after back (stopped full)
-      → PumpPromise m run ended input out after (given back) (pumped_as at end so full false 0)
+      → PumpPromise m run ended input out after (given back) (pumped_as at end so (stop full))
   going_stops full {after} {back} q =
       let p = step q in
+      let kind = stops_as full in
       let none : end + written_by (stopped full) ≡ end = omega (arith, stopped_none full) in
       let still = ap (turn (house_of now) so.lines ended (drop at input)) room_left ∙ sym p.turn_is in
       rw (rest_back end left back here, stopped_keeps full p)
       (record {
         goes_on = λ o rest texts e l r. rw (take_at (take end left) back end (front_long left back end here)) (g.extends rest texts e l r);
-        ends = λ o. absurd (false≢true o);
-        none_yet = λ o. refl;
+        ends = λ o. absurd (false≢true (sym kind.goes ∙ o));
+        none_yet = λ o. kind.none;
         idle = λ o. g.idle;
         behind = rw none at (back_behind q);
         same_size = back_long q ∙ g.long;
@@ -198,20 +213,20 @@ module _ {m now : Lent} {run so : Run} {ended : Bool} {input out left : List ℕ
         inside = g.inside;
         room = g.room;
         in_house = g.in_house;
-        stops_wanting = λ o f. rw f at still;
-        stops_full = λ f. rw f at still;
+        stops_wanting = λ o f. let is : full ≡ false = sym kind.fills ∙ f in rw is at still;
+        stops_full = λ f. let is : full ≡ true = sym kind.fills ∙ f in rw is at still;
       })
 
   -- reading has ended, with the last line
   going_ends : {after : Lent} {back : List ℕ} {l : Last} → Step after back (Ends l)
-      → PumpPromise m run ended input out after (given back) (pumped_as at (end + l.written) so false true l.refusal)
+      → PumpPromise m run ended input out after (given back) (pumped_as at (end + l.written) so (Over l.refusal))
   going_ends {after} {back} {l} q =
       let p = step q in
       let kept : after ≡ now = ends_keeps p in
       rw (rest_back end left back here)
       (record {
         goes_on = λ o. absurd (true≢false o);
-        ends = λ o rest e. rw (front_now q) (g.extends rest (take l.written back) (run_end_here l.refusal after) e (last (cut rest e) p));
+        ends = λ o rest e. rw (front_now q) (g.extends rest (take l.written back) (run_end_here (ending_number l.refusal) after) e (last (cut rest e) p));
         none_yet = λ o. absurd (true≢false o);
         idle = λ o. absurd (true≢false o);
         behind = back_behind q;
@@ -242,14 +257,14 @@ module _ {m now : Lent} {run so : Run} {ended : Bool} {input out left : List ℕ
     pub line_less : {l : Line} → r ≡ Wrote l → length out - (end + l.written) < length out - end
     line_less e = omega (arith, writes_some (step (told e)), fits_behind (told e))
 
-    pub wants_stops : r ≡ Wants → PumpPromise m run ended input out (lent plan prices districts so.whole) (given back) (pumped_as at end so false false 0)
+    pub wants_stops : r ≡ Wants → PumpPromise m run ended input out (lent plan prices districts so.whole) (given back) (pumped_as at end so Wanting)
     wants_stops e = going_stops false (told e)
 
-    pub full_stops : r ≡ Full → PumpPromise m run ended input out (lent plan prices districts so.whole) (given back) (pumped_as at end so true false 0)
+    pub full_stops : r ≡ Full → PumpPromise m run ended input out (lent plan prices districts so.whole) (given back) (pumped_as at end so Filled)
     full_stops e = going_stops true (told e)
 
     pub end_stops : {l : Last} → r ≡ Ends l
-        → PumpPromise m run ended input out (lent plan prices districts so.whole) (given back) (pumped_as at (end + l.written) so false true l.refusal)
+        → PumpPromise m run ended input out (lent plan prices districts so.whole) (given back) (pumped_as at (end + l.written) so (Over l.refusal))
     end_stops e = going_ends (told e)
 
     pub end_fits : {l : Last} → r ≡ Ends l → end + l.written ≤ length out

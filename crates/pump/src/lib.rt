@@ -2,41 +2,46 @@
 #![tactic(auto)]
 
 ghost use Rattle.std.specs.Prelude.{◌≡◌};
-ghost use Rattle.blocks.specs.Places.{mask_table};
 ghost use Rattle.record.specs.Promises.{lent, InHouse};
 ghost use Rattle.pump.specs.Pumps.{pumped_as, PumpPromise};
 
+use meaning::Refusal;
 use meaning::sizes::LEDGER_NUMBERS;
 use record::{Run, Stepped};
 
-// What the steps over the input at hand did: how many bytes they took and wrote, the state behind them, and whether the output is full or reading has ended, with a
-// refusal or 0; else the input holds no whole record any more.
+// Why no step more can be taken.
+#[derive(Clone, Copy)]
+pub enum Stop {
+    // the input holds no whole record any more
+    Wants,
+    // the output has no room for a line
+    Full,
+    // reading has ended, with the refusal that the last line writes, or none
+    Over(Option<Refusal>),
+}
+
+// What the steps over the input at hand did: how many bytes they took and wrote, the state behind them, and why they stopped.
 #[derive(Clone, Copy)]
 pub struct Pumped {
     pub taken: usize,
     pub written: usize,
     pub run: Run,
-    pub full: bool,
-    pub over: bool,
-    pub refusal: u8,
+    pub stop: Stop,
 }
 
-fn stopped(taken: usize, written: usize, run: Run, full: bool, over: bool, refusal: u8) -> Pumped
-    ensures { result ≡ pumped_as taken written run full over refusal }
+fn stopped(taken: usize, written: usize, run: Run, stop: Stop) -> Pumped
+    ensures { result ≡ pumped_as taken written run stop }
 {
     Pumped {
-        taken: taken,
-        written: written,
-        run: run,
-        full: full,
-        over: over,
-        refusal: refusal,
+        taken,
+        written,
+        run,
+        stop,
     }
 }
 
-// Takes steps over the input at hand until none can be taken, by a table of masks.
-fn pump_by(
-    masks: &[u8],
+// Takes steps over the input at hand until none can be taken.
+pub fn pump(
     plan: &mut [u8],
     prices: &mut [u8],
     districts: &mut [i64; LEDGER_NUMBERS],
@@ -45,15 +50,14 @@ fn pump_by(
     input: &[u8],
     output: &mut [u8],
 ) -> Pumped
-    requires { InHouse (lent plan.old prices.old districts.old run.whole) run.opened × (masks.now ≡ mask_table) }
+    requires { InHouse (lent plan.old prices.old districts.old run.whole) run.opened }
     ensures { PumpPromise (lent plan.old prices.old districts.old run.whole) run ended input.now output.old (lent plan.new prices.new districts.new result.run.whole) output.new result }
 {
     let mut now = run;
     let mut at: usize = 0;
     let mut end: usize = 0;
     while end <= output.len() {
-        match record::step_by(
-            masks,
+        match record::step_known(
             plan,
             prices,
             districts,
@@ -67,30 +71,12 @@ fn pump_by(
                 end += line.written;
                 now = line.run;
             }
-            Stepped::Wants => return stopped(at, end, now, false, false, 0),
-            Stepped::Full => return stopped(at, end, now, true, false, 0),
+            Stepped::Wants => return stopped(at, end, now, Stop::Wants),
+            Stepped::Full => return stopped(at, end, now, Stop::Full),
             Stepped::Ends(last) => {
-                return stopped(at, end + last.written, now, false, true, last.refusal)
+                return stopped(at, end + last.written, now, Stop::Over(last.refusal))
             }
         }
     }
-    stopped(at, end, now, false, false, 0)
-}
-
-// The same; the table is made here, once for all the steps.
-pub fn pump(
-    plan: &mut [u8],
-    prices: &mut [u8],
-    districts: &mut [i64; LEDGER_NUMBERS],
-    run: Run,
-    ended: bool,
-    input: &[u8],
-    output: &mut [u8],
-) -> Pumped
-    requires { InHouse (lent plan.old prices.old districts.old run.whole) run.opened }
-    ensures { PumpPromise (lent plan.old prices.old districts.old run.whole) run ended input.now output.old (lent plan.new prices.new districts.new result.run.whole) output.new result }
-{
-    let mut masks = [0xffu8; 64];
-    blocks::mask_digits(&mut masks);
-    pump_by(&masks, plan, prices, districts, run, ended, input, output)
+    stopped(at, end, now, Stop::Wants)
 }

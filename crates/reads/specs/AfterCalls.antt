@@ -1,5 +1,5 @@
 -- What a set's content and the count of its rules read as after an accepted call, by the call's body and what was there before.
-use Rattle.std.specs.Prelude.{ℕ, ◌+◌, ◌-◌, ◌≡◌, Bool, true, false, not, List, [], ◌∷◌, length, leb, ltb, eqb}
+use Rattle.std.specs.Prelude.{ℕ, ◌+◌, ◌-◌, ◌≡◌, Bool, true, false, not, List, [], ◌∷◌, length, leb, ltb, eqb, Result}
 use Rattle.std.proofs.Math.Option.{Option, none, some}
 use Rattle.meaning.specs.Sizes.{SET-BODY}
 use Rattle.meaning.specs.Basics.{is_some}
@@ -13,8 +13,7 @@ use Rattle.meaning.specs.Reads.{Read, read_after, kind1_body, Count, count_after
 use Rattle.meaning.specs.Calls.{Operation, open_plan, add_set, replace_set, remove_set, add_rule, change_rule, remove_rule, Call, body_of, opened_rooms, set_number, code_given, set_given}
 use Rattle.meaning.specs.LookBack.{content_after}
 use Rattle.meaning.specs.Answers.{count_of}
-use Rattle.meaning.specs.declared.Written.{Written}
-use Rattle.meaning.specs.declared.Counted.{Counted}
+use Rattle.meaning.specs.declared.Refusal.{Refusal}
 use Rattle.reads.specs.Promises.{GivesRead, ContentPromise, ReferrersPromise}
 
 -- WHAT A ROOM FOR SETS, A CONTENT AND A COUNT READ AS
@@ -66,13 +65,13 @@ is_about remove_rule b n = false
 
 -- after an accepted call over the memory of plan p, every read of the memory that it leaves
 pub record ReadsAfter (c : Call) (p : Plan) (before after : List ℕ) : Type 0 where
-  pub content : (n : ℕ) (out left : List ℕ) (r : Written) → ContentPromise after n out left r
+  pub content : (n : ℕ) (out left : List ℕ) (r : Result ℕ Refusal) → ContentPromise after n out left r
       → GivesRead (content_read (room_after c.operation (body_of c) p.rooms) (length out) n (content_after c.operation (body_of c) n (held p n))) out left r
-  pub referrers : (n : ℕ) (r : Counted) → ReferrersPromise after n r
+  pub referrers : (n : ℕ) (r : Result ℕ Refusal) → ReferrersPromise after n r
       → count_of r ≡ count_read (room_after c.operation (body_of c) p.rooms) n (content_after c.operation (body_of c) n (held p n))
       (named_after c.operation (body_of c) n (old_set p (body_of c)) (referrers p n))
   -- every other set as before
-  pub other_content : (n : ℕ) (out left : List ℕ) (r : Written) → is_about c.operation (body_of c) n ≡ false → ContentPromise after n out left r
+  pub other_content : (n : ℕ) (out left : List ℕ) (r : Result ℕ Refusal) → is_about c.operation (body_of c) n ≡ false → ContentPromise after n out left r
       → ContentPromise before n out left r
-  pub other_referrers : (n : ℕ) (r : Counted) → is_about c.operation (body_of c) n ≡ false → names_it n (some (set_given (body_of c))) ≡ 0
+  pub other_referrers : (n : ℕ) (r : Result ℕ Refusal) → is_about c.operation (body_of c) n ≡ false → names_it n (some (set_given (body_of c))) ≡ 0
       → names_it n (old_set p (body_of c)) ≡ 0 → ReferrersPromise after n r → ReferrersPromise before n r

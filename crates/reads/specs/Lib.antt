@@ -1,3 +1,4 @@
 pub mod Promises
 pub mod Applies
 pub mod AfterCalls
+pub mod Sets

@@ -1,26 +1,25 @@
 -- What the read calls promise, for any plan memory, any arguments and any lent buffer.
-use Rattle.std.specs.Prelude.{ℕ, ◌+◌, ◌≡◌, List, length}
+use Rattle.std.specs.Prelude.{ℕ, ◌+◌, ◌≡◌, List, length, Result}
 use Rattle.meaning.specs.Basics.{written_over}
 use Rattle.meaning.specs.Conditioning.{Stretch, digits_at}
 use Rattle.meaning.specs.Reads.{Read, conditioned, set_content, referrer_count, stretch}
 use Rattle.meaning.specs.Answers.{AnswersRead, count_of, span_of}
-use Rattle.meaning.specs.declared.Written.{Written}
-use Rattle.meaning.specs.declared.Counted.{Counted}
+use Rattle.meaning.specs.declared.Refusal.{Refusal}
 use Rattle.meaning.specs.declared.Span.{Span}
 use Rattle.plan.specs.State.{state_of}
 
 -- a read that writes: its refusal or how many bytes, and what the buffer holds afterwards
-pub record GivesRead (read : Read) (out after : List ℕ) (r : Written) : Type 0 where
+pub record GivesRead (read : Read) (out after : List ℕ) (r : Result ℕ Refusal) : Type 0 where
   pub result : AnswersRead r read
   pub buffer : after ≡ written_over read.bytes out
 
-abbrev pub ConditionedPromise : List ℕ → ℕ → List ℕ → List ℕ → List ℕ → Written → Type 0
+abbrev pub ConditionedPromise : List ℕ → ℕ → List ℕ → List ℕ → List ℕ → Result ℕ Refusal → Type 0
 ConditionedPromise m class ds out after r = GivesRead (conditioned (state_of m) (length out) class ds) out after r
 
-abbrev pub ContentPromise : List ℕ → ℕ → List ℕ → List ℕ → Written → Type 0
+abbrev pub ContentPromise : List ℕ → ℕ → List ℕ → List ℕ → Result ℕ Refusal → Type 0
 ContentPromise m n out after r = GivesRead (set_content (state_of m) (length out) n) out after r
 
-abbrev pub ReferrersPromise : List ℕ → ℕ → Counted → Type 0
+abbrev pub ReferrersPromise : List ℕ → ℕ → Result ℕ Refusal → Type 0
 ReferrersPromise m n r = count_of r ≡ referrer_count (state_of m) n
 
 -- the start and the count of the stretch

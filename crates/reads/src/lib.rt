@@ -2,25 +2,39 @@
 // bytes, any arguments and any lent buffer.
 #![tactic(auto)]
 
-ghost use Rattle.std.specs.Prelude.{◌≡◌, true, ◌∷◌, ◌+◌, ◌≤◌, ◌/◌, ◌%◌, length, get_or};
+ghost use Rattle.std.specs.Prelude.{◌≡◌, true, ◌∷◌, ◌+◌, ◌≤◌, ◌/◌, ◌%◌, length};
 ghost use Rattle.std.proofs.Math.Option.{some};
 ghost use Rattle.meaning.specs.Sizes.{CONTENT-BYTES, SET-BODY, DIGIT-ROOM};
 ghost use Rattle.meaning.specs.Basics.{written_over, within};
 ghost use Rattle.meaning.specs.Settings.{dialled_in_range};
 ghost use Rattle.meaning.specs.Actions.{LAST-CONDITIONED};
 ghost use Rattle.meaning.specs.Rules.{chosen};
-ghost use Rattle.meaning.specs.History.{no_rule};
 ghost use Rattle.meaning.specs.Reads.{conditioned_under, stretch_under, set_content, referrer_count};
 ghost use Rattle.meaning.specs.Answers.{count_of};
 ghost use Rattle.conditioning.specs.Spans.{Covers};
 ghost use Rattle.plan.specs.Layout.{plan_of};
-ghost use Rattle.plan.specs.State.{sound_of};
+ghost use Rattle.plan.specs.Readings.{rule_placed};
 ghost use Rattle.reads.specs.Promises.{GivesRead, ConditionedPromise, SpanPromise, StretchPromise, ContentPromise, ReferrersPromise};
 ghost use Rattle.reads.specs.Applies.{Applies};
+ghost use Rattle.reads.specs.Sets.{set_there};
 
 use meaning::fa::LAST_CONDITIONED;
 use meaning::sizes::{DIGIT_ROOM, SET_BODY, SET_NUMBER_BYTES};
-use meaning::{Chosen, Counted, Refusal, RulePlace, SetNumber, Span, Written};
+use meaning::{Refusal, SetNumber, Span};
+use plan::{HeldRule, SoundPlan};
+
+// A set that is not there is refused: a number over the room, and one that is not held.
+fn check_held(plan: SoundPlan, set: SetNumber) -> Result<(), Refusal>
+    ensures { result ≡ set_there (plan_of plan.entry.memory.now) set.0 }
+{
+    if plan.is_over_room(set) {
+        return Err(Refusal::Range);
+    }
+    if !plan.is_held(set) {
+        return Err(Refusal::Absent);
+    }
+    Ok(())
+}
 
 // A SET'S CONTENT
 
@@ -34,29 +48,22 @@ fn write_content(set: SetNumber, content: &[u8], out: &mut [u8])
 }
 
 // Over a plan that is known to be sound, with room for the body.
-pub fn set_content_known(plan: &[u8], set: SetNumber, out: &mut [u8]) -> Written
-    requires { (sound_of plan.now ≡ true) × (SET-BODY ≤ length out.old) }
-    ensures { GivesRead (set_content (some (plan_of plan.now)) (length out.old) set.0) out.old out.new result }
+pub fn set_content_known(plan: SoundPlan, set: SetNumber, out: &mut [u8]) -> Result<usize, Refusal>
+    requires { SET-BODY ≤ length out.old }
+    ensures { GivesRead (set_content (some (plan_of plan.entry.memory.now)) (length out.old) set.0) out.old out.new result }
 {
-    if plan::is_over_room(plan, set) {
-        return Written::Refused(Refusal::Range);
-    }
-    if !plan::is_held(plan, set) {
-        return Written::Refused(Refusal::Absent);
-    }
-    write_content(set, plan::content(plan, set), out);
-    Written::Bytes(SET_BODY)
+    check_held(plan, set)?;
+    write_content(set, plan.content(set), out);
+    Ok(SET_BODY)
 }
 
 // The content of a set, as a kind 1 body at the front of the buffer.
-pub fn set_content(plan: &[u8], set: SetNumber, out: &mut [u8]) -> Written
+pub fn set_content(plan: &[u8], set: SetNumber, out: &mut [u8]) -> Result<usize, Refusal>
     ensures { ContentPromise plan.now set.0 out.old out.new result }
 {
-    if !examiner::sound(plan) {
-        return Written::Refused(Refusal::Plan);
-    }
+    let plan = examiner::examine(plan)?;
     if out.len() < SET_BODY {
-        return Written::Refused(Refusal::Room);
+        return Err(Refusal::Room);
     }
     set_content_known(plan, set, out)
 }
@@ -64,72 +71,76 @@ pub fn set_content(plan: &[u8], set: SetNumber, out: &mut [u8]) -> Written
 // THE COUNT OF RULES NAMING A SET
 
 // Over a plan that is known to be sound.
-pub fn referrers_known(plan: &[u8], set: SetNumber) -> Counted
-    requires { sound_of plan.now ≡ true }
-    ensures { count_of result ≡ referrer_count (some (plan_of plan.now)) set.0 }
+pub fn referrers_known(plan: SoundPlan, set: SetNumber) -> Result<usize, Refusal>
+    ensures { count_of result ≡ referrer_count (some (plan_of plan.entry.memory.now)) set.0 }
 {
-    if plan::is_over_room(plan, set) {
-        return Counted::Refused(Refusal::Range);
-    }
-    if !plan::is_held(plan, set) {
-        return Counted::Refused(Refusal::Absent);
-    }
-    Counted::Rules(plan::referrers(plan, set))
+    check_held(plan, set)?;
+    Ok(plan.referrers(set))
 }
 
 // How many rules name a set.
-pub fn referrers(plan: &[u8], set: SetNumber) -> Counted
+pub fn referrers(plan: &[u8], set: SetNumber) -> Result<usize, Refusal>
     ensures { ReferrersPromise plan.now set.0 result }
 {
-    if !examiner::sound(plan) {
-        return Counted::Refused(Refusal::Plan);
-    }
+    let plan = examiner::examine(plan)?;
     referrers_known(plan, set)
 }
 
 // THE CONDITIONED NUMBER
 
-// By the rule at a place, which is chosen for the number.
-fn conditioned_at<'a>(plan: &'a [u8], place: RulePlace, digits: &'a [u8], out: &mut [u8]) -> Written
-    requires applies { Applies plan.now place.0 digits.now }
+// By the rule that is chosen for the number.
+fn conditioned_at<'a>(
+    rule: HeldRule<'a>,
+    digits: &'a [u8],
+    out: &mut [u8],
+) -> Result<usize, Refusal>
+    requires applies { Applies rule.plan.memory.now rule.place.0 digits.now }
     requires in_bounds { DIGIT-ROOM ≤ length out.old }
-    ensures { GivesRead (conditioned_under (plan_of plan.now) digits.now (some (get_or (plan_of plan.now).rules place.0 no_rule))) out.old out.new result }
+    ensures { GivesRead (conditioned_under (plan_of rule.entry.plan.memory.now) digits.now (some (rule_placed rule.entry.plan.memory.now rule.entry.place.0))) out.old out.new result }
 {
-    let cas = actions::cas_of(plan::content_at(plan, place));
+    let cas = actions::cas_of(rule.content());
     if actions::no_conditioning(cas) {
-        return Written::Bytes(0);
+        return Ok(0);
     }
-    let prefix = plan::prefix_at(plan, place);
+    let prefix = rule.prefix();
     if conditioning::is_short(cas, prefix, digits.len()) {
-        return Written::Refused(Refusal::Short);
+        return Err(Refusal::Short);
     }
-    let settings = plan::settings(plan);
-    Written::Bytes(formatting::write_conditioned(settings, digits, cas, prefix, out))
+    let settings = rule.plan.settings();
+    Ok(formatting::write_conditioned(settings, digits, cas, prefix, out))
 }
 
 // Over a plan that is known to be sound, for digits in range, with room for the number.
-pub fn conditioned_known<'a>(plan: &'a [u8], class: u8, digits: &'a [u8], out: &mut [u8]) -> Written
-    requires { (sound_of plan.now ≡ true) × (dialled_in_range class digits.now ≡ true) × (DIGIT-ROOM ≤ length out.old) }
-    ensures { GivesRead (conditioned_under (plan_of plan.now) digits.now (chosen class digits.now (plan_of plan.now).rules)) out.old out.new result }
+pub fn conditioned_known<'a>(
+    plan: SoundPlan<'a>,
+    class: u8,
+    digits: &'a [u8],
+    out: &mut [u8],
+) -> Result<usize, Refusal>
+    requires { (dialled_in_range class digits.now ≡ true) × (DIGIT-ROOM ≤ length out.old) }
+    ensures { GivesRead (conditioned_under (plan_of plan.entry.memory.now) digits.now (chosen class digits.now (plan_of plan.entry.memory.now).rules)) out.old out.new result }
 {
     match choice::choose(plan, class, digits) {
-        Chosen::NoRule => Written::Bytes(0),
-        Chosen::At(place) => conditioned_at(plan, place, digits, out),
+        None => Ok(0),
+        Some(rule) => conditioned_at(rule, digits, out),
     }
 }
 
 // The conditioned number, for the lookup, at the front of the buffer.
-pub fn conditioned<'a>(plan: &'a [u8], class: u8, digits: &'a [u8], out: &mut [u8]) -> Written
+pub fn conditioned<'a>(
+    plan: &'a [u8],
+    class: u8,
+    digits: &'a [u8],
+    out: &mut [u8],
+) -> Result<usize, Refusal>
     ensures { ConditionedPromise plan.now class digits.now out.old out.new result }
 {
-    if !examiner::sound(plan) {
-        return Written::Refused(Refusal::Plan);
-    }
+    let plan = examiner::examine(plan)?;
     if out.len() < DIGIT_ROOM {
-        return Written::Refused(Refusal::Room);
+        return Err(Refusal::Room);
     }
     if !ranges::dialled_in_range(class, digits) {
-        return Written::Refused(Refusal::Range);
+        return Err(Refusal::Range);
     }
     conditioned_known(plan, class, digits, out)
 }
@@ -140,23 +151,18 @@ pub fn conditioned<'a>(plan: &'a [u8], class: u8, digits: &'a [u8], out: &mut [u
 fn is_conditioned(value: u8) -> bool
     ensures { result ≡ within 1 LAST-CONDITIONED value }
 {
-    if value < 1 {
-        return false;
-    }
-    value <= LAST_CONDITIONED
+    (1..=LAST_CONDITIONED).contains(&value)
 }
 
 // Over a plan that is known to be sound, for digits and a value in range.
-pub fn span_known(plan: &[u8], class: u8, digits: &[u8], value: u8) -> Span
-    requires { sound_of plan.now ≡ true }
-    ensures { Covers (length digits.now) (stretch_under (plan_of plan.now) value (length digits.now) (chosen class digits.now (plan_of plan.now).rules)) result }
+pub fn span_known(plan: SoundPlan, class: u8, digits: &[u8], value: u8) -> Span
+    ensures { Covers (length digits.now) (stretch_under (plan_of plan.entry.memory.now) value (length digits.now) (chosen class digits.now (plan_of plan.entry.memory.now).rules)) result }
 {
     match choice::choose(plan, class, digits) {
-        Chosen::NoRule => Span { start: 0, count: 0 },
-        Chosen::At(place) => {
-            let cas = actions::cas_of(plan::content_at(plan, place));
-            let prefix = plan::prefix_at(plan, place);
-            conditioning::span_in(cas, prefix, digits.len(), value)
+        None => Span { start: 0, count: 0 },
+        Some(rule) => {
+            let cas = actions::cas_of(rule.content());
+            conditioning::span_in(cas, rule.prefix(), digits.len(), value)
         }
     }
 }
@@ -165,13 +171,10 @@ pub fn span_known(plan: &[u8], class: u8, digits: &[u8], value: u8) -> Span
 pub fn span(plan: &[u8], class: u8, digits: &[u8], value: u8) -> Span
     ensures { SpanPromise plan.now class digits.now value result × (result.start + result.count ≤ length digits.now) }
 {
-    if !examiner::sound(plan) {
+    let Ok(plan) = examiner::examine(plan) else {
         return Span { start: 0, count: 0 };
-    }
-    if !ranges::dialled_in_range(class, digits) {
-        return Span { start: 0, count: 0 };
-    }
-    if !is_conditioned(value) {
+    };
+    if !ranges::dialled_in_range(class, digits) || !is_conditioned(value) {
         return Span { start: 0, count: 0 };
     }
     span_known(plan, class, digits, value)

@@ -1,18 +1,17 @@
 -- The lines of a number, of a call record, of a row of the price list and of the losses, and what they leave of all that is lent.
-use Prim.Native.Nat.{ℕ, ◌+◌, ◌<◌}
+use Prim.Native.Nat.{ℕ, ◌+◌}
+use Rattle.std.specs.Prelude.{Some, None}
 use mathlib.Core.Path.{◌≡◌, refl, ap, ap₂, sym, ◌∙◌}
-use mathlib.Core.Logic.{◌≢◌}
 use mathlib.Core.Bool.{Bool, true, false}
 use mathlib.Core.List.{List}
 use mathlib.Core.Option.{Option, none, some}
-use native.Mathlib.Omega.{arith}
 use lib.IntN.{ℤ}
 use lib.ListN.{length}
-use lib.Dec.{leb, eqb}
-use borrow.Author.Tests.{lt-leb, leb-true, eqb-true, eqb-false}
+use lib.Dec.{eqb}
+use borrow.Author.Tests.{eqb-true, eqb-false}
 use Rattle.meaning.specs.Sizes.{DIGIT-ROOM, NUMBER-BYTES, CALL-BYTES, PRICE-BODY}
-use Rattle.meaning.specs.Basics.{is_zero, within}
-use Rattle.meaning.specs.Calls.{NUMBER, LIST, CALL, PRICE, LOSSES, is_kind, is_call, body_length}
+use Rattle.meaning.specs.Basics.{is_zero}
+use Rattle.meaning.specs.Calls.{NUMBER, CALL, PRICE, LOSSES, is_call, body_length}
 use Rattle.meaning.specs.Prices.{PriceRow, prices_pass, price_refusal, rows_after}
 use Rattle.meaning.specs.Ledger.{Ledger, ledger_of}
 use Rattle.meaning.specs.Answer.{answer}
@@ -20,7 +19,6 @@ use Rattle.meaning.specs.Charges.{charged, ledger_after}
 use Rattle.meaning.specs.Records.{accepted_line, number_line, House, house_with, rows_or, record_text, record_house}
 use Rattle.meaning.specs.declared.Totals.{Totals}
 use Rattle.meaning.proofs.Tests.{is_true, true_is}
-use Rattle.meaning.proofs.Ledgers.{both_true}
 use Rattle.plan.specs.State.{sound_of, state_of}
 use Rattle.prices.specs.Layout.{prices_image, rows_in, prices_in_range}
 use Rattle.prices.proofs.ImageLaws.{passes_parts, passes_of, image_rows, in_range_is}
@@ -136,42 +134,34 @@ module _ (m p : List ℕ) (ds : List ℤ) (run : Run) (i : InHouse (lent m p ds 
             call_turn (house_of given) run.lines body ∙ ap (λ (l : Ledger). wrote line (1 + CALL-BYTES) (house_with (state_of m) (rows_in p) l) 0) (sym a.ledger) in
             rw (e, t-is, o_is, is) (any_line (1 + CALL-BYTES) 0 run.opened w a.line t (kept p ds' w own_prices) i.plan_in.state)
 
-  module _ (k : ℕ) (body : List ℕ) (size : length body ≡ body_length k) where
+  module _ (body : List ℕ) where
+    abbrev LinesOf : ℕ → List ℕ → Lent → List ℕ → Line → Type 0
+    LinesOf k out after last r = LinePromise (record_turn (house_of given) run.lines k body) given out after last r
+
     -- of a row: the ledger stays
-    pub price_line : {out last p' : List ℕ} {n : ℕ} {r : Line} → k ≡ PRICE → PricePromise p body out p' last n
-        → r ≡ line_of (1 + length body) n run.opened 0 run.whole → Lines k body out (lent m p' ds r.run.whole) last r
-    unfolding body_length
-    price_line {p' = p'} is c e =
+    pub price_line : {out last p' : List ℕ} {n : ℕ} {r : Line} → length body ≡ PRICE-BODY → PricePromise p body out p' last n
+        → r ≡ line_of (1 + length body) n run.opened 0 run.whole → LinesOf PRICE out (lent m p' ds r.run.whole) last r
+    price_line {p' = p'} size c e =
         let line : List ℕ = accepted_line (price_refusal (some (rows_in p)) body) in
         let rows : List PriceRow = rows_or (rows_in p) (rows_after (some (rows_in p)) body) in
         let back : rows_in p' ≡ rows = ap rows_in c.memory ∙ image_rows rows (passes_parts rows (true_is (prices_pass rows) (rows_pass (rows_in p) body (passing p i.prices_in)))) in
-        let long : PRICE-BODY ≡ length body = sym (size ∙ ap body_length is) in
         let t : record_turn (house_of given) run.lines PRICE body ≡ wrote line (1 + length body) (house_of (lent m p' ds run.whole)) 0 =
         price_turn (house_of given) run.lines body
-        ∙ ap₂ (λ (j : ℕ) (rs : List PriceRow). wrote line (1 + j) (house_with (state_of m) rs (ledger_of ds run.whole)) 0) long (sym back) in
-        rw (is, e) (any_line (1 + length body) 0 run.opened run.whole c.line t (kept p' ds run.whole (c.memory ∙ ap prices_image (sym back))) i.plan_in.state)
+        ∙ ap₂ (λ (j : ℕ) (rs : List PriceRow). wrote line (1 + j) (house_with (state_of m) rs (ledger_of ds run.whole)) 0) (sym size) (sym back) in
+        rw e (any_line (1 + length body) 0 run.opened run.whole c.line t (kept p' ds run.whole (c.memory ∙ ap prices_image (sym back))) i.plan_in.state)
 
     -- of the losses: all stays
-    module _ (more : LIST < k) (known : is_kind k ≡ true) (a : k ≢ CALL) (b : k ≢ PRICE) where
-      losses_are : k ≡ LOSSES
-      unfolding is_kind
-      losses_are =
-          let month : within CALL LOSSES k ≡ true = rw (lt-leb k LIST more) at known in
-          let parts = both_true (leb CALL k) (leb k LOSSES) month in
-          omega (arith, leb-true CALL k parts.0, leb-true k LOSSES parts.1, a, b)
+    module _ {out last : List ℕ} {l : Reported} (c : LossPromise (ledger_of ds run.whole) run.lines out last l) where
+      abbrev text : List ℕ
+      text = (loss_part (ledger_of ds run.whole) run.lines).text
 
-      module _ {out last : List ℕ} {l : Reported} (c : LossPromise (ledger_of ds run.whole) run.lines out last l) where
-        abbrev text : List ℕ
-        text = (loss_part (ledger_of ds run.whole) run.lines).text
+      by : (next : Option ℕ) → next_of l.next ≡ next → record_turn (house_of given) run.lines LOSSES body ≡ turn_by (house_of given) LOSSES body text next
+      by next e = loss_turn (house_of given) run.lines body next (sym e ∙ c.next_is)
 
-        by : (next : Option ℕ) → next_of l ≡ next → record_turn (house_of given) run.lines LOSSES body ≡ turn_by (house_of given) LOSSES body text next
-        by next e = loss_turn (house_of given) run.lines body next (sym e ∙ c.next_is)
+      pub loss_last : {r : Line} → l.next ≡ None → r ≡ line_of 1 l.written run.opened 0 run.whole → LinesOf LOSSES out (lent m p ds r.run.whole) last r
+      loss_last f e =
+          let t : record_turn (house_of given) run.lines LOSSES body ≡ wrote text 1 (house_of given) 0 = by none (rw f) ∙ losses_end (house_of given) body text in
+          rw e (any_line 1 0 run.opened run.whole c.line t (kept p ds run.whole own_prices) i.plan_in.state)
 
-        pub loss_last : {r : Line} → l.last ≡ true → r ≡ line_of 1 l.written run.opened 0 run.whole → Lines k body out (lent m p ds r.run.whole) last r
-        loss_last f e =
-            let t : record_turn (house_of given) run.lines LOSSES body ≡ wrote text 1 (house_of given) 0 = by none (rw f) ∙ losses_end (house_of given) body text in
-            rw (losses_are, e) (any_line 1 0 run.opened run.whole c.line t (kept p ds run.whole own_prices) i.plan_in.state)
-
-        pub loss_next : {r : Line} → l.last ≡ false → r ≡ line_of 0 l.written run.opened l.next run.whole → Lines k body out (lent m p ds r.run.whole) last r
-        loss_next f e =
-            rw (losses_are, e) (any_line 0 l.next run.opened run.whole c.line (by (some l.next) (rw f)) (kept p ds run.whole own_prices) i.plan_in.state)
+      pub loss_next : {r : Line} (next : ℕ) → l.next ≡ Some next → r ≡ line_of 0 l.written run.opened next run.whole → LinesOf LOSSES out (lent m p ds r.run.whole) last r
+      loss_next next f e = rw e (any_line 0 next run.opened run.whole c.line (by (some next) (rw f)) (kept p ds run.whole own_prices) i.plan_in.state)

@@ -2,52 +2,39 @@
 use Prim.Native.Nat.{ℕ, ◌+◌, ◌-◌, ◌≤◌, ◌<◌}
 use mathlib.Core.Path.{◌≡◌, refl, ap, sym, subst, ◌∙◌}
 use mathlib.Core.Logic.{◌≢◌}
-use mathlib.Core.Bool.{Bool, true, false, ◌||◌}
+use mathlib.Core.Bool.{Bool, true, false}
 use mathlib.Core.List.{List}
 use native.Mathlib.Omega.{arith}
 use lib.ListN.{length, take, drop, length-drop}
 use lib.Seq.{drop-drop, take-take, length-take-le}
 use lib.Dec.{eqb}
-use borrow.Author.Tests.{eqb-true, eqb-false, eq-eqb, ne_eqb}
+use Rattle.std.specs.Prelude.{Option, Some, None, Result, Ok, Err}
+use borrow.Author.Tests.{eqb-true, eqb-false, ne_eqb}
 use Rattle.meaning.specs.Sizes.{NUMBER-BYTES, CALL-HEAD, CALL-BYTES}
 use Rattle.meaning.specs.Basics.{part}
 use Rattle.meaning.specs.Settings.{number_in_range}
 use Rattle.meaning.specs.Refusals.{PLAN, RANGE}
 use Rattle.meaning.specs.Calls.{NUMBER, CALL, is_kind, body_length}
 use Rattle.meaning.specs.Ledger.{Ledger, ledger_in_range}
+use Rattle.meaning.specs.Answers.{number_of_refusal}
+use Rattle.meaning.specs.declared.Refusal.{Refusal}
 use Rattle.meaning.specs.Charges.{call_record_of}
 use Rattle.meaning.specs.Records.{no_line}
 use Rattle.meaning.proofs.Tests.{true_is}
 use Rattle.plan.specs.State.{sound_of, state_of}
-use Rattle.prices.specs.Layout.{rows_in, prices_in_range}
+use Rattle.prices.specs.Layout.{rows_in}
 use Rattle.buffer.proofs.ListLaws.{drop_take}
-use Rattle.number.specs.Answering.{Known}
-use Rattle.charging.specs.Promises.{head_in_range, Chargeable}
+use Rattle.charging.specs.Promises.{head_in_range}
 use Rattle.charging.proofs.Ranges.{head_out, number_decides}
 use Rattle.text.specs.Writes.{Writes}
 use Rattle.billing.specs.Lines.{AnsweredPromise, OfRecord}
 use Rattle.billing.proofs.ChargeLines.{body_bytes, body_in_range, unsound_line, outside_line}
 use Rattle.record.specs.Numbers.{has_number, body_at, NumberAt, alone, called, RefusedAt, no_plan, outside, GivesPlace}
-use Rattle.record.specs.declared.NumberPlace.{NumberPlace}
-use Rattle.record.specs.declared.NumberPlace.TheVariants.{At, Cut, Refused}
 
 -- THE KINDS
 
-pub first_kind : (k : ℕ) → k ≡ NUMBER → true ≡ has_number k
-first_kind k e = rw (eq-eqb k NUMBER e)
-
-pub second_kind : (k : ℕ) → k ≢ NUMBER → eqb k CALL ≡ has_number k
-second_kind k n = rw (ne_eqb k NUMBER n)
-
 pub either : (k : ℕ) → has_number k ≡ true → k ≢ NUMBER → k ≡ CALL
 either k h n = eqb-true k CALL (rw (ne_eqb k NUMBER n) at h)
-
-pub no_number : (k : ℕ) → has_number k ≡ false → (k ≢ NUMBER) × (k ≢ CALL)
-no_number k h = (λ e. true_is false (sym (rw (eq-eqb k NUMBER e) at h)), λ e. true_is false (sym (or_right (eqb k NUMBER) (eqb k CALL) (eq-eqb k CALL e) h)))
-  where
-    or_right : (a b : Bool) → b ≡ true → (a || b) ≡ false → true ≡ false
-    or_right true b e f = f
-    or_right false b e f = sym e ∙ f
 
 pub number_kind : (k : ℕ) → has_number k ≡ true → is_kind k ≡ true
 unfolding is_kind
@@ -115,14 +102,14 @@ unfolding body_length
 at_outside (alone h) e = e
 at_outside {input = input} (called h i) e = number_decides (body_at CALL input) i ∙ (ap number_in_range (sym (in_call input)) ∙ e)
 
-pub at_record : {k at : ℕ} {input m prices : List ℕ} {l : Ledger} → NumberAt k input at → sound_of m ≡ true → prices_in_range prices ≡ true → ledger_in_range l ≡ true
-    → number_in_range (number_at at input) ≡ true → OfRecord (eqb k CALL) m prices l (body_at k input) (number_at at input)
+pub at_record : {k at : ℕ} {input : List ℕ} {l : Ledger} → NumberAt k input at → ledger_in_range l ≡ true → number_in_range (number_at at input) ≡ true
+    → OfRecord (eqb k CALL) l (body_at k input) (number_at at input)
 unfolding body_length call_record_of
-at_record (alone h) s p l e = record { alone = λ z. refl; charged_with = λ z. absurd (true_is false z); in_record = λ z. absurd (true_is false z) }
-at_record {input = input} (called h i) s p l e =
+at_record (alone h) l e = record { alone = λ z. refl; charged_with = λ z. absurd (true_is false z); in_record = λ z. absurd (true_is false z) }
+at_record {input = input} (called h i) l e =
     record {
       alone = λ z. absurd (true_is false (sym z));
-      charged_with = λ z. record { sound = s; prices_in = p; ledger_in = l; whole = body_size CALL input refl h; range = number_decides (body_at CALL input) i ∙ (ap number_in_range (sym (in_call input)) ∙ e) };
+      charged_with = λ z. record { ledger_in = l; whole = body_size CALL input refl h; range = number_decides (body_at CALL input) i ∙ (ap number_in_range (sym (in_call input)) ∙ e) };
       in_record = λ z. in_call input;
     }
 
@@ -135,24 +122,21 @@ refused_at {k} {input = input} m prices l h (no_plan fits) s w = unsound_line m 
 refused_at {input = input} m prices l h (outside fits i) s w =
     outside_line m prices l (body_at CALL input) true (body_size CALL input refl fits) s (head_out (body_at CALL input) i) w
 
-refused_fits : {opened : Bool} {k n : ℕ} {input : List ℕ} → RefusedAt opened k input n → 1 + body_length k ≤ length input
+pub refused_fits : {opened : Bool} {k n : ℕ} {input : List ℕ} → RefusedAt opened k input n → 1 + body_length k ≤ length input
 unfolding body_length
 refused_fits (no_plan h) = h
 refused_fits (outside h i) = h
 
 -- WHAT PLACE IS GIVEN
 
-module _ (opened : Bool) (k : ℕ) (input : List ℕ) {r : NumberPlace} (g : GivesPlace opened k input r) where
-  pub place_cut : r ≡ Cut → length input < 1 + body_length k
+module _ (opened : Bool) (k : ℕ) (input : List ℕ) {r : Result (Option ℕ) Refusal} (g : GivesPlace opened k input r) where
+  pub place_cut : r ≡ Ok None → length input < 1 + body_length k
   place_cut e = subst (GivesPlace opened k input) e g
 
-  pub place_refused : (n : ℕ) → r ≡ Refused n → RefusedAt opened k input n
+  pub place_refused : (n : Refusal) → r ≡ Err n → RefusedAt opened k input (number_of_refusal n)
   place_refused n e = subst (GivesPlace opened k input) e g
 
-  pub place_fits : (n : ℕ) → r ≡ Refused n → 1 + body_length k ≤ length input
-  place_fits n e = refused_fits (place_refused n e)
-
-  pub place_at : (n : ℕ) → r ≡ At n → (opened ≡ true) × NumberAt k input n
+  pub place_at : (n : ℕ) → r ≡ Ok (Some n) → (opened ≡ true) × NumberAt k input n
   place_at n e = subst (GivesPlace opened k input) e g
 
 module _ {k : ℕ} (input : List ℕ) where

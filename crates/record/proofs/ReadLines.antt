@@ -1,16 +1,16 @@
 -- The lines that leave the plan as it was: a count, a line of a listing, and which of them a record gives.
 use Prim.Native.Nat.{ℕ, zero, suc, ◌+◌, ◌-◌, ◌≤◌, ◌<◌}
 use mathlib.Core.Path.{◌≡◌, refl, ap, sym, ◌∙◌}
-use mathlib.Core.Logic.{◌≢◌}
 use mathlib.Core.Bool.{Bool, true, false, not}
 use mathlib.Core.List.{List, [], ◌∷◌}
 use mathlib.Core.Option.{Option, none, some}
 use native.Mathlib.Omega.{arith}
 use lib.ListN.{length, take, get_or, get_elem?, replicate, length-map, get_or-map}
 use lib.Seq.{take_at}
-use lib.Dec.{T}
-use borrow.Author.Tests.{leb-false}
-use Rattle.meaning.specs.Sizes.{SET-NUMBER-BYTES, PREFIX-AT, FILTER-BYTES, NUMBER-BYTES, DIGIT-ROOM}
+use lib.Dec.{T, leb}
+use borrow.Author.Tests.{leb-true, leb-false}
+use Rattle.std.proofs.Math.Option.{some-injective}
+use Rattle.meaning.specs.Sizes.{SET-NUMBER-BYTES, PREFIX-AT, FILTER-BYTES}
 use Rattle.meaning.specs.Basics.{count, is_some, word, part, padded, digits_in_range}
 use Rattle.std.specs.Prelude.{if◌then◌else◌}
 use Rattle.meaning.specs.Refusals.{PLAN, RANGE, ABSENT, Line, first_of}
@@ -18,15 +18,16 @@ use Rattle.meaning.specs.Filters.{filter_of, filter_ranges, filter_in_range}
 use Rattle.meaning.specs.Rules.{Rule, filter_in, names}
 use Rattle.meaning.specs.Plan.{sized, code_passes, codes_pass, held, referrers}
 use Rattle.meaning.specs.History.{no_rule}
-use Rattle.meaning.specs.Calls.{REMOVE-RULE, NUMBER, REFS, LIST, is_call, body_length}
-use Rattle.meaning.specs.Answer.{answer}
+use Rattle.meaning.specs.Calls.{REFS, LIST, is_call, body_length}
 use Rattle.meaning.specs.Reads.{over_room, count_after, referrer_count, Listed, listed, listing, listed_or, rule_at_place}
-use Rattle.meaning.specs.Answers.{set_of, count_of, rule_listed}
+use Rattle.meaning.specs.Answers.{set_of, count_of, rule_listed, rule_given, rule_wanted}
 use Rattle.meaning.specs.Ledger.{empty_ledger}
-use Rattle.meaning.specs.Records.{no_line, number_line, refs_line, listed_line, end_line, record_text, record_house, House, house_with}
-use Rattle.meaning.specs.declared.Counted.{Counted}
+use Rattle.meaning.specs.Records.{no_line, refs_line, listed_line, end_line, record_text, record_house, House, house_with}
+use Rattle.std.specs.Prelude.{Result, Ok, Err}
+use Rattle.meaning.specs.declared.Refusal.{Refusal}
 use Rattle.meaning.specs.declared.SetNumber.{SetNumber}
 use Rattle.meaning.specs.declared.ListedRule.{ListedRule}
+use Rattle.meaning.proofs.Telling.{refusal_number}
 use Rattle.meaning.proofs.Tests.{and_right, all_at, all_place, digits_few}
 use Rattle.buffer.proofs.ListLaws.{element_at, no_element}
 use Rattle.plan.specs.Layout.{plan_of}
@@ -76,7 +77,7 @@ counted_few zero n = omega arith
 counted_few (suc r) n = omega arith
 
 module _ (m : List ℕ) where
-  pub refs_few : (c : Counted) (n : ℕ) → sound_of m ≡ true → count_of c ≡ referrer_count (some (plan_of m)) n → (count_of c).number < 65536
+  pub refs_few : (c : Result ℕ Refusal) (n : ℕ) → sound_of m ≡ true → count_of c ≡ referrer_count (some (plan_of m)) n → (count_of c).number < 65536
   unfolding referrers
   refs_few c n s e =
       let lines : List Line = (over_room (plan_of m) n, RANGE) ∷ (not (is_some (held (plan_of m) n)), ABSENT) ∷ [] in
@@ -87,7 +88,7 @@ module _ (m : List ℕ) where
   unfolding refs_line
   refs_no_plan k s w = rw (state_none m s) w
 
-  pub refs_known : {out last : List ℕ} {n : ℕ} (c : Counted) (set : SetNumber) (k : ℕ) → sound_of m ≡ true → set ≡ set_of k
+  pub refs_known : {out last : List ℕ} {n : ℕ} (c : Result ℕ Refusal) (set : SetNumber) (k : ℕ) → sound_of m ≡ true → set ≡ set_of k
       → count_of c ≡ referrer_count (some (plan_of m)) set.0 → Writes (refs_line (count_of c)) out last n
       → Writes (refs_line (referrer_count (state_of m) k)) out last n
   refs_known c set k s k-is e w =
@@ -104,11 +105,11 @@ prefix_range code t = all_at 1 (filter_ranges code) (and_right (sized FILTER-BYT
 prefix_back : (xs : List ℕ) → take (length xs) (padded 16 xs) ≡ xs
 prefix_back xs = take_at xs (replicate (16 - length xs) 0) (length xs) refl
 
-pub listed_back : (l : Listed) → listed_of (rule_listed (0, some l)) ≡ l
+pub listed_back : (l : Listed) → listed_of (rule_listed l) ≡ l
 listed_back l =
     ap (λ (xs : List ℕ). record { filter = record { class = l.filter.class; prefix = xs; len = l.filter.len }; set = l.set }) (prefix_back l.filter.prefix)
 
-listed_in : (r : Rule) → T (code_passes r.code) → ListedIn (rule_listed (0, some (listed r)))
+listed_in : (r : Rule) → T (code_passes r.code) → ListedIn (rule_listed (listed r))
 unfolding filter_of
 listed_in r t =
     let range = prefix_range r.code t in
@@ -152,35 +153,57 @@ module _ (m : List ℕ) (run : Run) where
         ∙ rw (state_some m s, no_element rules run.lines (rw (← c-is) h), c-is) (list_last (house_with (some (plan_of m)) [] empty_ledger) (end_line (length rules))) in
         read_line m run w 1 0 true t e (sym o)
 
-    module _ (c : ℕ) (c-is : c ≡ length rules) (h : run.lines < c) where
-      abbrev here : Rule
-      here = get_or (plan_of m).rules run.lines no_rule
+    abbrev here : Rule
+    here = get_or (plan_of m).rules run.lines no_rule
 
-      rule_here : get_elem? rules run.lines ≡ some (listed here)
-      unfolding listing
-      rule_here =
-          element_at rules run.lines (listed no_rule) (rw (← c-is) h) ∙ ap some (get_or-map listed (plan_of m).rules run.lines no_rule)
+    rule_here : run.lines < length rules → get_elem? rules run.lines ≡ some (listed here)
+    unfolding listing
+    rule_here h = element_at rules run.lines (listed no_rule) h ∙ ap some (get_or-map listed (plan_of m).rules run.lines no_rule)
 
+    -- the rule at the place, or none at or above the count
+    module _ (given : Result ListedRule Refusal) (is : rule_given given ≡ rule_wanted (rule_at_place (some (plan_of m)) run.lines)) where
+      pub goes_on : (rule : ListedRule) → given ≡ Ok rule → (run.lines < length rules) × (rule ≡ rule_listed (listed here))
+      goes_on rule e = go (leb (length rules) run.lines) refl
+        where
+          go : (b : Bool) → leb (length rules) run.lines ≡ b → (run.lines < length rules) × (rule ≡ rule_listed (listed here))
+          go true q =
+              let none_there : rule_given given ≡ (RANGE, none) = is ∙ ap (λ (x : Option Listed). rule_wanted (listed_or x)) (no_element rules run.lines (leb-true (length rules) run.lines q)) in
+              absurd (zero_range (ap (λ (x : ℕ × Option ListedRule). x.0) (ap rule_given (sym e) ∙ none_there)))
+            where
+              zero_range : 0 ≡ RANGE → ⊥
+              zero_range z = omega (arith, z)
+          go false q =
+              let h : run.lines < length rules = leb-false (length rules) run.lines q in
+              let there : rule_given given ≡ (0, some (rule_listed (listed here))) = is ∙ ap (λ (x : Option Listed). rule_wanted (listed_or x)) (rule_here h) in
+              (h, some-injective rule (rule_listed (listed here)) (ap (λ (x : ℕ × Option ListedRule). x.1) (ap rule_given (sym e) ∙ there)))
+
+      pub is_over : (r : Refusal) → given ≡ Err r → length rules ≤ run.lines
+      is_over r e = go (leb (length rules) run.lines) refl
+        where
+          go : (b : Bool) → leb (length rules) run.lines ≡ b → length rules ≤ run.lines
+          go true q = leb-true (length rules) run.lines q
+          go false q =
+              let there : rule_given given ≡ (0, some (rule_listed (listed here))) =
+              is ∙ ap (λ (x : Option Listed). rule_wanted (listed_or x)) (rule_here (leb-false (length rules) run.lines q)) in
+              absurd (refusal_number r (ap (λ (x : ℕ × Option ListedRule). x.0) (ap rule_given (sym e) ∙ there)))
+
+    module _ (rule : ListedRule) (h : run.lines < length rules) (rule_is : rule ≡ rule_listed (listed here)) where
       passes : T (code_passes here.code)
       unfolding listing codes_pass
       passes =
-          let l : c ≡ length (plan_of m).rules = c-is ∙ length-map (plan_of m).rules listed in
+          let l : length rules ≡ length (plan_of m).rules = length-map (plan_of m).rules listed in
           all_place (λ (r : Rule). code_passes r.code) (plan_of m).rules no_rule run.lines (sound_is m s).plan.codes (rw (← l) h)
 
-      module _ (rule : ListedRule) (is : rule ≡ rule_listed (rule_at_place (some (plan_of m)) run.lines)) where
-        rule_is : rule ≡ rule_listed (0, some (listed here))
-        rule_is = is ∙ ap (λ (x : Option Listed). rule_listed (listed_or x)) rule_here
+      pub next_in : ListedIn rule
+      next_in = rw rule_is (listed_in here passes)
 
-        pub next_in : ListedIn rule
-        next_in = rw rule_is (listed_in here passes)
-
-        pub list_next : {out last : List ℕ} {n : ℕ} {r : Written} → Writes (listed_line (listed_of rule)) out last n → r ≡ line_of 0 n true (run.lines + 1) run.whole
-            → Lists out last r
-        list_next w e =
-            let t : record_turn (plan_house m) run.lines LIST [] ≡ wrote (listed_line (listed here)) 0 (plan_house m) (run.lines + 1) =
-            list_by (plan_house m) run.lines ∙ rw (state_some m s, rule_here) in
-            let text : listed_line (listed_of rule) ≡ listed_line (listed here) = ap listed_line (ap listed_of rule_is ∙ listed_back (listed here)) in
-            read_line m run (named text w) 0 (run.lines + 1) true t e (sym o)
+      pub list_next : {out last : List ℕ} {n : ℕ} {r : Written} → Writes (listed_line (listed_of rule)) out last n → r ≡ line_of 0 n true (run.lines + 1) run.whole
+          → Lists out last r
+      list_next w e =
+          let t : record_turn (plan_house m) run.lines LIST [] ≡ wrote (listed_line (listed here)) 0 (plan_house m) (run.lines + 1) =
+          list_by (plan_house m) run.lines ∙ rw (state_some m s, rule_here h) in
+          let text : listed_line (listed_of rule) ≡ listed_line (listed here) = ap listed_line (ap listed_of rule_is ∙ listed_back (listed here)) in
+          read_line m run (named text w) 0 (run.lines + 1) true t e (sym o)
 
 -- A RECORD THAT READS THE PLAN
 
@@ -197,16 +220,10 @@ list_turn s lines body = go (list_part s.plan lines).text (list_part s.plan line
     go text none = refl
     go text (some next) = refl
 
-module _ (m : List ℕ) (run : Run) (k : ℕ) (body : List ℕ) where
-  abbrev Reads : List ℕ → List ℕ → Written → Type 0
-  Reads out last r = ReadPromise (record_turn (plan_house m) run.lines k body) m run out last r
+module _ (m : List ℕ) (run : Run) (body : List ℕ) where
+  pub read_refs : {out last : List ℕ} {n : ℕ} {r : Written} → Writes (refs_line (referrer_count (state_of m) (word body 0))) out last n
+      → r ≡ line_of (1 + SET-NUMBER-BYTES) n run.opened 0 run.whole → ReadPromise (record_turn (plan_house m) run.lines REFS body) m run out last r
+  read_refs w e = read_line m run w (1 + SET-NUMBER-BYTES) 0 run.opened (refs_turn (plan_house m) run.lines body) e refl
 
-  pub read_refs : {out last : List ℕ} {n : ℕ} {r : Written} → k ≡ REFS → Writes (refs_line (referrer_count (state_of m) (word body 0))) out last n
-      → r ≡ line_of (1 + SET-NUMBER-BYTES) n run.opened 0 run.whole → Reads out last r
-  read_refs h w e = read_line m run w (1 + SET-NUMBER-BYTES) 0 run.opened (rw h (refs_turn (plan_house m) run.lines body)) e refl
-
-  pub read_list : {out last : List ℕ} {r : Written} → is_call k ≡ false → k ≤ LIST → k ≢ NUMBER → k ≢ REFS → Lists m run out last r → Reads out last r
-  unfolding is_call
-  read_list c most a b p =
-      let is : k ≡ LIST = omega (arith, leb-false k REMOVE-RULE c, a, b) in
-      rw (is, list_turn (plan_house m) run.lines body) p
+  pub read_list : {out last : List ℕ} {r : Written} → Lists m run out last r → ReadPromise (record_turn (plan_house m) run.lines LIST body) m run out last r
+  read_list p = rw (list_turn (plan_house m) run.lines body) p

@@ -7,11 +7,13 @@ use native.Mathlib.Omega.{arith}
 use lib.ListN.{length, take, drop, get_or, length-drop}
 use lib.Seq.{take_at, length-take-le}
 use lib.Dec.{ltb, leb-suc-suc}
-use borrow.Author.Tests.{lt-ltb, le-ltb, lt-leb, le-leb, eq-eqb, ne_eqb}
+use borrow.Author.Tests.{lt-ltb, le-ltb, lt-leb, le-leb, eq-eqb}
 use Rattle.meaning.specs.Sizes.{LEDGER-NUMBERS, RUN-BYTES}
 use Rattle.meaning.specs.Basics.{written_over}
 use Rattle.std.specs.Prelude.{if◌then◌else◌}
 use Rattle.meaning.specs.Refusals.{KIND, CUT}
+use Rattle.std.specs.Prelude.{Some, None}
+use Rattle.meaning.specs.declared.Refusal.TheVariants.{Cut as CutShort, Kind as NoKind}
 use Rattle.meaning.specs.Calls.{is_kind, body_length}
 use Rattle.meaning.specs.Ledger.{ledger_of, ledger_in_range}
 use Rattle.meaning.specs.Records.{House, no_line}
@@ -33,8 +35,8 @@ use Rattle.record.specs.declared.Stepped.TheVariants.{Wrote, Wants, Full, Ends}
 pub cut_wants : (ended : Bool) (out : List ℕ) → ended ≡ false → CutPromise ended out out Wants
 cut_wants ended out e = rw e (record { answer_is = refl; output_is = refl; inside = omega arith })
 
-pub cut_ends : {out last : List ℕ} {n : ℕ} (ended : Bool) → ended ≡ true → Writes (no_line CUT) out last n → CutPromise ended out last (Ends (last_of n CUT))
-cut_ends ended e w = rw e (record { answer_is = ap (λ (k : ℕ). Ends (last_of k CUT)) w.count_is; output_is = w.buffer_is; inside = omega (arith, w.count_is, w.inside) })
+pub cut_ends : {out last : List ℕ} {n : ℕ} (ended : Bool) → ended ≡ true → Writes (no_line CUT) out last n → CutPromise ended out last (Ends (last_of n (Some CutShort)))
+cut_ends ended e w = rw e (record { answer_is = ap (λ (k : ℕ). Ends (last_of k (Some CutShort))) w.count_is; output_is = w.buffer_is; inside = omega (arith, w.count_is, w.inside) })
 
 -- A WHOLE RECORD
 
@@ -90,7 +92,7 @@ module _ (m : Lent) (lines : ℕ) (ended : Bool) (input out : List ℕ) where
         opened_is = opened_is;
       }
 
-  pub nothing_ends : length input ≡ 0 → ended ≡ true → StepPromise m lines ended input out m out (Ends (last_of 0 0))
+  pub nothing_ends : length input ≡ 0 → ended ≡ true → StepPromise m lines ended input out m out (Ends (last_of 0 None))
   nothing_ends h e =
       let t : turn (house_of m) lines ended input (length out) ≡ ends [] 0 = empty_turn (house_of m) lines ended input (length out) h ∙ rw e in
       promised (ends [] 0) t refl refl refl (omega arith) refl tt
@@ -111,7 +113,7 @@ module _ (m : Lent) (lines : ℕ) (ended : Bool) (input out : List ℕ) where
       at_kind : turn (house_of m) lines ended input (length out) ≡ turn_at (house_of m) lines ended kind (drop 1 input)
       at_kind = kind_turn (house_of m) lines ended input (length out) some-input room
 
-      pub unknown_ends : {last : List ℕ} {n : ℕ} → is_kind kind ≡ false → Writes (no_line KIND) out last n → StepPromise m lines ended input out m last (Ends (last_of n KIND))
+      pub unknown_ends : {last : List ℕ} {n : ℕ} → is_kind kind ≡ false → Writes (no_line KIND) out last n → StepPromise m lines ended input out m last (Ends (last_of n (Some NoKind)))
       unknown_ends h w =
           promised (ends (no_line KIND) KIND) (at_kind ∙ unknown_turn (house_of m) lines ended kind (drop 1 input) h) (ap (λ (x : List ℕ). ends x KIND) (front_is w)) w.buffer_is w.count_is w.inside refl tt
 
@@ -168,18 +170,15 @@ module _ (m : Lent) where
   pub prices_unfit : prices_in_range m.prices ≡ false → is_fit m ≡ false
   prices_unfit h = all_false 1 (fit_tests m) h
 
-  pub numbers_unfit : (n : ℕ) → n ≡ length m.districts → (n ≡ LEDGER-NUMBERS → ⊥) → is_fit m ≡ false
-  numbers_unfit n e h = all_false 2 (fit_tests m) (ne_eqb (length m.districts) LEDGER-NUMBERS (λ q. h (e ∙ q)))
-
   pub ledger_unfit : ledger_in_range (ledger_of m.districts m.whole) ≡ false → is_fit m ≡ false
   ledger_unfit h = all_false 3 (fit_tests m) h
 
   -- as a run's, where each test has passed
-  module _ {opened r s : Bool} {n : ℕ} (room : RUN-BYTES ≤ length m.plan) (r-is : r ≡ prices_in_range m.prices) (listed : not r ≡ false) (n-is : n ≡ length m.districts)
-      (all : n ≡ LEDGER-NUMBERS) (s-is : s ≡ ledger_in_range (ledger_of m.districts m.whole)) (entered : not s ≡ false) (sound : opened ≡ sound_of m.plan) where
+  module _ {opened r s : Bool} (room : RUN-BYTES ≤ length m.plan) (r-is : r ≡ prices_in_range m.prices) (listed : not r ≡ false) (all : length m.districts ≡ LEDGER-NUMBERS)
+      (s-is : s ≡ ledger_in_range (ledger_of m.districts m.whole)) (entered : not s ≡ false) (sound : opened ≡ sound_of m.plan) where
     pub fit_house : InHouse m opened
     fit_house =
-        record { plan_in = record { room = room; state = sym sound }; prices_in = passed r-is listed; size = sym n-is ∙ all; ledger_in = passed s-is entered }
+        record { plan_in = record { room = room; state = sym sound }; prices_in = passed r-is listed; size = all; ledger_in = passed s-is entered }
 
     pub all_fit : is_fit m ≡ true
     all_fit = rw (le-leb RUN-BYTES (length m.plan) room, fit_house.prices_in, eq-eqb (length m.districts) LEDGER-NUMBERS fit_house.size, fit_house.ledger_in)

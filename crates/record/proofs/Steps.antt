@@ -34,7 +34,7 @@ use Rattle.run.specs.Runs.{InRun}
 use Rattle.text.specs.Writes.{LONGEST}
 use Rattle.record.specs.Turns.{Turn, wrote, wants, full, ends, record_turn, turn_at, turn, is_whole}
 use Rattle.record.specs.Cuts.{Steps, line, wanting, filled, over}
-use Rattle.record.specs.Promises.{Lent, house_of, InHouse, turn_of, lent_after, StepPromise, Runs, next, again, emptied, last, RunEnd, end_of, new_lent, AnyRun}
+use Rattle.record.specs.Promises.{Lent, house_of, InHouse, ending_number, turn_of, lent_after, StepPromise, Runs, next, again, emptied, last, RunEnd, end_of, new_lent, AnyRun}
 use Rattle.record.specs.declared.Run.{Run}
 use Rattle.record.specs.declared.Line.{Line}
 use Rattle.record.specs.declared.Last.{Last}
@@ -139,7 +139,7 @@ run_steps (again {m = m} {left = left} {output = o} {texts = texts} {run = run} 
 run_steps (emptied {m = m} {left = left} {output = o} {texts = texts} {run = run} {e = e} c p r) =
     filled (length o) c (sym p.turn_is) (subst (λ (x : Lent). Steps (house_of x) run.lines left texts (end_of e)) (full_keeps p) (run_steps r))
 run_steps (last {m = m} {left = left} {output = o} {written = w} {run = run} {l = l} c p) =
-    subst (λ (x : Lent). Steps (house_of m) run.lines left (take l.written w) (end_here l.refusal (house_of x))) (sym (ends_keeps p))
+    subst (λ (x : Lent). Steps (house_of m) run.lines left (take l.written w) (end_here (ending_number l.refusal) (house_of x))) (sym (ends_keeps p))
     (over (length o) c (sym p.turn_is))
 
 -- no plan, an empty price list and an empty ledger

@@ -1,11 +1,11 @@
 -- Records that have a number: alone, or in a call record.
-use Rattle.std.specs.Prelude.{ℕ, ◌+◌, ◌≤◌, ◌<◌, ◌≡◌, Bool, true, false, ◌||◌, List, length, take, drop, eqb}
+use Rattle.std.specs.Prelude.{ℕ, ◌+◌, ◌≤◌, ◌<◌, ◌≡◌, Bool, true, false, ◌||◌, List, length, take, drop, eqb, Option, Some, None, Result, Ok, Err}
 use Rattle.meaning.specs.Sizes.{NUMBER-BYTES, CALL-HEAD, CALL-BYTES}
 use Rattle.meaning.specs.Refusals.{PLAN, RANGE}
 use Rattle.meaning.specs.Calls.{NUMBER, CALL, body_length}
+use Rattle.meaning.specs.Answers.{number_of_refusal}
+use Rattle.meaning.specs.declared.Refusal.{Refusal}
 use Rattle.charging.specs.Promises.{head_in_range}
-use Rattle.record.specs.declared.NumberPlace.{NumberPlace}
-use Rattle.record.specs.declared.NumberPlace.TheVariants.{At, Cut, Refused}
 
 abbrev pub has_number : ℕ → Bool
 has_number k = eqb k NUMBER || eqb k CALL
@@ -24,8 +24,8 @@ pub data RefusedAt : Bool → ℕ → List ℕ → ℕ → Type 0 where
   no_plan : {kind : ℕ} {input : List ℕ} → 1 + body_length kind ≤ length input → RefusedAt false kind input PLAN
   outside : {input : List ℕ} → 1 + CALL-BYTES ≤ length input → head_in_range (body_at CALL input) ≡ false → RefusedAt true CALL input RANGE
 
--- which of them, or a record that is cut
-abbrev pub GivesPlace : Bool → ℕ → List ℕ → NumberPlace → Type 0
-GivesPlace opened kind input (At n) = (opened ≡ true) × NumberAt kind input n
-GivesPlace opened kind input Cut = length input < 1 + body_length kind
-GivesPlace opened kind input (Refused k) = RefusedAt opened kind input k
+-- which of them, or none where the record is cut
+abbrev pub GivesPlace : Bool → ℕ → List ℕ → Result (Option ℕ) Refusal → Type 0
+GivesPlace opened kind input (Ok (Some n)) = (opened ≡ true) × NumberAt kind input n
+GivesPlace opened kind input (Ok None) = length input < 1 + body_length kind
+GivesPlace opened kind input (Err r) = RefusedAt opened kind input (number_of_refusal r)

@@ -1,12 +1,14 @@
 -- What a step promises, over what is lent to a run: the memory of its plan, its price list and its ledger.
-use Rattle.std.specs.Prelude.{ℕ, ◌+◌, ◌≤◌, ◌≡◌, Bool, true, false, ◌||◌, List, [], ◌∷◌, ◌++◌, ℤ, pos, length, take, drop, leb, eqb}
+use Rattle.std.specs.Prelude.{ℕ, ◌+◌, ◌≤◌, ◌≡◌, Bool, true, false, List, [], ◌∷◌, ◌++◌, ℤ, pos, length, take, drop, leb, eqb, Option, Some, None}
 use Rattle.meaning.specs.Sizes.{PRICES-BYTES, LEDGER-NUMBERS, RUN-BYTES}
-use Rattle.meaning.specs.Basics.{all_of, is_zero, written_over}
+use Rattle.meaning.specs.Basics.{all_of, written_over}
 use Rattle.std.specs.Prelude.{if◌then◌else◌}
 use Rattle.meaning.specs.Refusals.{CUT}
-use Rattle.meaning.specs.Calls.{OPEN-PLAN}
 use Rattle.meaning.specs.Ledger.{ledger_of, totals_of, empty_ledger, ledger_in_range}
 use Rattle.meaning.specs.Records.{House, house_with, no_line, file_text, End, file_end}
+use Rattle.meaning.specs.Answers.{number_of_refusal}
+use Rattle.meaning.specs.declared.Refusal.{Refusal}
+use Rattle.meaning.specs.declared.Refusal.TheVariants.{Cut as CutShort}
 use Rattle.meaning.specs.declared.Totals.{Totals}
 use Rattle.buffer.specs.Zeros.{zeros}
 use Rattle.plan.specs.State.{sound_of, state_of}
@@ -20,8 +22,6 @@ use Rattle.record.specs.declared.Line.{Line}
 use Rattle.record.specs.declared.Last.{Last}
 use Rattle.record.specs.declared.Stepped.{Stepped}
 use Rattle.record.specs.declared.Stepped.TheVariants.{Wrote, Wants, Full, Ends}
-use Rattle.record.specs.declared.AnyStep.{AnyStep}
-use Rattle.record.specs.declared.AnyStep.TheVariants.{Unfit, Took}
 
 -- WHAT IS LENT TO A RUN; it holds the whole's totals itself
 
@@ -58,12 +58,17 @@ abbrev pub line_of : ℕ → ℕ → Bool → ℕ → Totals → Line
 line_of taken written opened lines whole =
     record { taken = taken; written = written; run = record { opened = opened; lines = lines; whole = whole } }
 
+-- the number of the refusal that reading ends with, or 0
+abbrev pub ending_number : Option Refusal → ℕ
+ending_number None = 0
+ending_number (Some r) = number_of_refusal r
+
 -- what a step's answer says: the text stands at the front of the output; and the state that the memory holds
 abbrev pub turn_of : Stepped → List ℕ → House → Turn
 turn_of (Wrote l) output s = wrote (take l.written output) l.taken s l.run.lines
 turn_of Wants output s = wants
 turn_of Full output s = full
-turn_of (Ends e) output s = ends (take e.written output) e.refusal
+turn_of (Ends e) output s = ends (take e.written output) (ending_number e.refusal)
 
 -- how many bytes an answer says are written
 abbrev pub written_by : Stepped → ℕ
@@ -134,17 +139,13 @@ pub record LinePromise (t : Turn) (m : Lent) (output : List ℕ) (after : Lent) 
   pub memory_is : after ≡ lent_after t m
   pub opened_is : sound_of after.plan ≡ r.run.opened
 
--- whether a plan is there after a call of a kind, answered with a number
-abbrev pub opened_after : Bool → ℕ → ℕ → Bool
-opened_after opened k number = if is_zero number then opened || eqb k OPEN-PLAN else opened
-
 -- the last line of so many bytes, and the refusal that it writes
-abbrev pub last_of : ℕ → ℕ → Last
+abbrev pub last_of : ℕ → Option Refusal → Last
 last_of written refusal = record { written = written; refusal = refusal }
 
 -- A BODY THAT IS CUT: its line where the input has ended
 abbrev pub cut_answer : Bool → ℕ → Stepped
-cut_answer ended n = if ended then Ends (last_of n CUT) else Wants
+cut_answer ended n = if ended then Ends (last_of n (Some CutShort)) else Wants
 
 abbrev pub cut_text : Bool → List ℕ
 cut_text ended = if ended then no_line CUT else []
@@ -164,7 +165,7 @@ pub record StepPromise (m : Lent) (lines : ℕ) (ended : Bool) (input output : L
   pub memory_is : after ≡ lent_after (turn (house_of m) lines ended input (length output)) m
   pub opened_is : OpenedRight r after
 
--- OF A STEP OVER ANYTHING LENT: a memory that is too small for a run's plan, or a price list or ledger out of range, has its own answer, and nothing is changed
+-- OF A STEP OVER ANYTHING LENT: none over a memory that is too small for a run's plan, or a price list or ledger out of range, and nothing is changed
 abbrev pub fit_tests : Lent → List Bool
 fit_tests m =
     leb RUN-BYTES (length m.plan) ∷ prices_in_range m.prices ∷ eqb (length m.districts) LEDGER-NUMBERS ∷ ledger_in_range (ledger_of m.districts m.whole) ∷ []
@@ -172,14 +173,14 @@ fit_tests m =
 abbrev pub is_fit : Lent → Bool
 is_fit m = all_of (fit_tests m)
 
-abbrev pub AnyStepPromise : Lent → ℕ → Bool → List ℕ → List ℕ → Lent → List ℕ → AnyStep → Type 0
-AnyStepPromise m lines ended input output after left Unfit = (is_fit m ≡ false) × (after ≡ m) × (left ≡ output)
-AnyStepPromise m lines ended input output after left (Took r) = (is_fit m ≡ true) × StepPromise m lines ended input output after left r
+abbrev pub AnyStepPromise : Lent → ℕ → Bool → List ℕ → List ℕ → Lent → List ℕ → Option Stepped → Type 0
+AnyStepPromise m lines ended input output after left None = (is_fit m ≡ false) × (after ≡ m) × (left ≡ output)
+AnyStepPromise m lines ended input output after left (Some r) = (is_fit m ≡ true) × StepPromise m lines ended input output after left r
 
 -- the whole's totals behind it
-abbrev pub whole_after : Totals → AnyStep → Totals
-whole_after w Unfit = w
-whole_after w (Took r) = whole_behind w r
+abbrev pub whole_after : Totals → Option Stepped → Totals
+whole_after w None = w
+whole_after w (Some r) = whole_behind w r
 
 -- how a run of steps ends: the refusal, or 0, the place where, and what is lent as it is left
 pub record RunEnd : Type 0 where
@@ -208,7 +209,7 @@ pub data Runs : Lent → Run → List ℕ → List ℕ → RunEnd → Type 0 whe
   emptied : {m after : Lent} {left part rest output written texts : List ℕ} {run : Run} {ended : Bool} {e : RunEnd} → Cut left part rest ended
       → StepPromise m run.lines ended part output after written Full → Runs after run left texts e → Runs m run left texts e
   last : {m after : Lent} {left part rest output written : List ℕ} {run : Run} {ended : Bool} {l : Last} → Cut left part rest ended
-      → StepPromise m run.lines ended part output after written (Ends l) → Runs m run left (take l.written written) (run_end_here l.refusal after)
+      → StepPromise m run.lines ended part output after written (Ends l) → Runs m run left (take l.written written) (run_end_here (ending_number l.refusal) after)
 
 -- the state that a run begins with
 abbrev pub start : Run

@@ -13,10 +13,8 @@ use Rattle.meaning.specs.Basics.{any, is_some}
 use Rattle.meaning.specs.Filters.{Filter, filter_of, filter_in_range}
 use Rattle.meaning.specs.Rules.{Rule, has_filter, rules_in_order}
 use Rattle.meaning.specs.Plan.{fits_held}
-use Rattle.meaning.specs.Reads.{over_room}
-use Rattle.meaning.specs.Calls.{code_given, set_given, holds_filter}
-use Rattle.meaning.specs.declared.FilterPlace.{FilterPlace}
-use Rattle.meaning.specs.declared.FilterPlace.TheVariants.{Held, Absent}
+use Rattle.meaning.specs.Calls.{code_given, holds_filter}
+use Rattle.std.specs.Prelude.{Result, Ok, Err, is_ok}
 use Rattle.meaning.specs.declared.RulePlace.{RulePlace}
 use Rattle.meaning.proofs.Tests.{is_true, true_is, false_is, or_right_false, not_not}
 use Rattle.filter.specs.Slots.{FilterBytes}
@@ -29,12 +27,10 @@ use Rattle.plan.proofs.ReadLaws.{sound_is}
 use Rattle.rule_changes.specs.Places.{place_number, GivesFilter}
 
 -- RANGE passed
-pub in_range : {m b : List ℕ} {r : Bool} → sound_of m ≡ true → length b ≡ RULE-BODY
-    → r ≡ (over_room (plan_of m) (set_given b) || not (filter_in_range (code_given b))) → r ≡ false → GivesFilter m b
-in_range {m} {b} s size e h =
-    let over : Bool = over_room (plan_of m) (set_given b) in
+pub in_range : {b : List ℕ} {r : Bool} (over : Bool) → length b ≡ RULE-BODY → r ≡ (over || not (filter_in_range (code_given b))) → r ≡ false → GivesFilter b
+in_range {b} over size e h =
     let range : Bool = filter_in_range (code_given b) in
-    record { sound = s; whole = omega arith; range = is_true range (not_not range (or_right_false over (not range) (false_is (over || not range) (sym e ∙ h)))) }
+    record { whole = omega arith; range = is_true range (not_not range (or_right_false over (not range) (false_is (over || not range) (sym e ∙ h)))) }
 
 -- the bytes of a filter in range
 pub code_bytes : (b : List ℕ) → FILTER-BYTES ≤ length b → filter_in_range (code_given b) ≡ true → FilterBytes (code_given b)
@@ -48,20 +44,21 @@ pub none_fits : (f : Filter) (o : Option (List ℕ)) → is_some o ≡ false →
 none_fits f none e = refl
 none_fits f (some c) e = absurd (true≢false e)
 
-module _ (m b : List ℕ) (g : GivesFilter m b) where
+module _ (m b : List ℕ) (s : sound_of m ≡ true) (g : GivesFilter b) where
   abbrev f : Filter
   f = filter_of (code_given b)
 
   order : T (rules_in_order (plan_of m).rules)
-  order = (sound_is m g.sound).plan.order
+  order = (sound_is m s).plan.order
 
   -- by the answer of the lookup
-  module _ (r : FilterPlace) (e : place_given r ≡ filter_place (filter_of (code_given b)) (plan_of m).rules) where
-    pub held_found : (k : RulePlace) → r ≡ Held k → true ≡ holds_filter (plan_of m) (code_given b)
-    held_found k q = sym (held_at_lem f (plan_of m).rules k.0 order (sym e ∙ ap place_given q)).some_has
-
-    pub absent_found : (k : RulePlace) → r ≡ Absent k → false ≡ holds_filter (plan_of m) (code_given b)
-    absent_found k q = sym (absent_at f (plan_of m).rules k.0 order (sym e ∙ ap place_given q)).none_has
+  module _ (r : Result RulePlace RulePlace) (e : place_given r ≡ filter_place (filter_of (code_given b)) (plan_of m).rules) where
+    pub filter_held : is_ok r ≡ holds_filter (plan_of m) (code_given b)
+    filter_held = go r refl
+      where
+        go : (x : Result RulePlace RulePlace) → r ≡ x → is_ok x ≡ holds_filter (plan_of m) (code_given b)
+        go (Ok k) q = sym (held_at_lem f (plan_of m).rules k.0 order (sym e ∙ ap place_given q)).some_has
+        go (Err k) q = sym (absent_at f (plan_of m).rules k.0 order (sym e ∙ ap place_given q)).none_has
 
 -- where no rule has the filter, and where one has
 module _ (f : Filter) (rs : List Rule) (order : T (rules_in_order rs)) where

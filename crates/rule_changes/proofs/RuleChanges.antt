@@ -1,7 +1,7 @@
 -- What an accepted call about a rule makes of the plan, in words of the place that the lookup gives.
 use Prim.Native.Nat.{ℕ, ◌≤◌, ◌<◌}
 use mathlib.Core.Path.{◌≡◌, refl, ap, ap₂, sym, ◌∙◌}
-use mathlib.Core.Bool.{Bool, true, false}
+use mathlib.Core.Bool.{true, false}
 use mathlib.Core.List.{List, ◌++◌}
 use native.Mathlib.Omega.{arith}
 use lib.ListN.{length}
@@ -42,14 +42,14 @@ pub full_is : (m : List ℕ) (n k : ℕ) → n ≡ rule_count m → k ≡ rule_r
 unfolding plan_of
 full_is m n k a e = ap₂ eqb (a ∙ rule_count_is m) e
 
-module _ (m b : List ℕ) (g : GivesFilter m b) (k : RulePlace) (k-is : k.0 ≡ place_number (filter_place (filter_of (code_given b)) (plan_of m).rules)) where
+module _ (m b : List ℕ) (s : sound_of m ≡ true) (g : GivesFilter b) (k : RulePlace) (k-is : k.0 ≡ place_number (filter_place (filter_of (code_given b)) (plan_of m).rules)) where
   abbrev f : Filter
   f = filter_of (code_given b)
 
   -- a rule has the filter
   module _ (there : holds_filter (plan_of m) (code_given b) ≡ true) where
     held_here : HeldAt f (plan_of m).rules k.0
-    held_here = rw k-is (placed_held f (plan_of m).rules (sound_is m g.sound).plan.order there)
+    held_here = rw k-is (placed_held f (plan_of m).rules (sound_is m s).plan.order there)
 
     pub held_below : k.0 < rule_count m
     held_below = rw (rule_count_is m) held_here.within
@@ -65,7 +65,7 @@ module _ (m b : List ℕ) (g : GivesFilter m b) (k : RulePlace) (k-is : k.0 ≡ 
   -- none has
   module _ (none : holds_filter (plan_of m) (code_given b) ≡ false) where
     absent_here : AbsentAt f (plan_of m).rules k.0
-    absent_here = rw k-is (placed_absent f (plan_of m).rules (sound_is m g.sound).plan.order none)
+    absent_here = rw k-is (placed_absent f (plan_of m).rules (sound_is m s).plan.order none)
 
     pub absent_within : k.0 ≤ rule_count m
     absent_within = rw (rule_count_is m) absent_here.within

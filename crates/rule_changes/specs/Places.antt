@@ -4,14 +4,12 @@ use Rattle.meaning.specs.Sizes.{FILTER-BYTES}
 use Rattle.meaning.specs.Filters.{filter_in_range}
 use Rattle.meaning.specs.Calls.{code_given}
 use Rattle.filter.specs.Place.{Place, held, absent}
-use Rattle.plan.specs.State.{sound_of}
 
 abbrev pub place_number : Place → ℕ
 place_number (held k) = k
 place_number (absent k) = k
 
--- body b gives a filter in range, over a sound plan
-pub record GivesFilter (m b : List ℕ) : Type 0 where
-  pub sound : sound_of m ≡ true
+-- body b gives a filter in range
+pub record GivesFilter (b : List ℕ) : Type 0 where
   pub whole : FILTER-BYTES ≤ length b
   pub range : filter_in_range (code_given b) ≡ true

@@ -17,7 +17,9 @@ use Rattle.std.specs.Prelude.{if◌then◌else◌}
 use Rattle.meaning.specs.Refusals.{PLAN, first_of}
 use Rattle.meaning.specs.Settings.{rooms_of, bytes_needed}
 use Rattle.meaning.specs.Plan.{Plan}
-use Rattle.meaning.specs.Calls.{Operation, open_plan, Call, OPEN-PLAN, is_call, body_length, body_of, opened_rooms, opening_lines, lacks_bytes, lines_of, refusal, made, is_accepted, after, operation_of, call_of}
+use Rattle.meaning.specs.Calls.{Operation, open_plan, Call, body_length, body_of, opened_rooms, opening_lines, lacks_bytes, lines_of, refusal, made, is_accepted, after}
+use Rattle.meaning.specs.Answers.{edit_of, number_of_edit}
+use Rattle.meaning.specs.declared.kinds.Edit.{Edit}
 use Rattle.meaning.specs.Records.{lacks_program_room}
 use Rattle.meaning.proofs.Tests.{true_is, is_false, false_is, or_left_false, or_right_false, passed_at}
 use Rattle.meaning.proofs.Soundness.{accepted_passed}
@@ -25,8 +27,8 @@ use Rattle.plan.specs.Layout.{plan_of}
 use Rattle.plan.specs.State.{sound_of, state_of}
 use Rattle.plan.proofs.ImageLaws.{sound_memory, state_some, state_none}
 use Rattle.changes.specs.Promise.{memory_of, memory_after, Provides, calls}
-use Rattle.changes.proofs.PromiseLaws.{kind_unsound}
-use Rattle.meaning.proofs.CallKinds.{is_opening, Asks, opens, changes, asks, not_both, other_call}
+use Rattle.changes.proofs.PromiseLaws.{unsound}
+use Rattle.meaning.proofs.CallKinds.{is_opening, Asks, opens, changes, asks, not_both, edits}
 use Rattle.changes.proofs.Chains.{after_call}
 use Rattle.run.specs.Runs.{RunProvides}
 
@@ -124,14 +126,14 @@ changed : (o : Operation) (m b left : List ℕ) (n : ℕ) → is_opening o ≡ f
 changed o m b left n e p =
     provided (calls o b) m left n (same_number (calls o b) (lacks_bytes (length m)) lacks_program_room (state_of m) (not_both e)) p
 
--- every kind of a call but the opening's is such a call
-module _ (k : ℕ) (m b : List ℕ) (call : is_call k ≡ true) (other : k ≢ OPEN-PLAN) where
-  pub changed_kind : (left : List ℕ) (n : ℕ) → Provides (call_of k b) m left n → RunProvides (call_of k b) m left n
-  changed_kind left n p = changed (operation_of k) m b left n (other_call k call other) p
+-- every edit is such a call
+module _ (e : Edit) (m b : List ℕ) where
+  pub changed_edit : (left : List ℕ) (n : ℕ) → Provides (calls (edit_of e) b) m left n → RunProvides (calls (edit_of e) b) m left n
+  changed_edit left n p = changed (edit_of e) m b left n (edits e) p
 
   -- over no plan each of them is refused
-  pub unopened : length b ≡ body_length k → sound_of m ≡ false → RunProvides (call_of k b) m m PLAN
-  unopened size s = changed_kind m PLAN (kind_unsound k call m b (body_length k) refl other (omega arith) s)
+  pub unopened : length b ≡ body_length (number_of_edit e) → sound_of m ≡ false → RunProvides (calls (edit_of e) b) m m PLAN
+  unopened size s = changed_edit m PLAN (unsound (edit_of e) m b (edits e) (omega arith) s)
 
 -- OPENING: `sets` and `rules` are the rooms that the body asks for
 

@@ -20,13 +20,13 @@ sp_of lookup ported = if ported && eqb lookup.kind 3 then lookup.entity else []
 unfoldable pub stage_of : Settings → Lookup → List ℕ → Served → Stage
 stage_of settings lookup fas s =
     record {
-      response = s.response;
+      response = s.effect.response;
       done = take s.count s.actions;
-      rn = rn_of settings lookup fas s.ported;
-      sp = sp_of lookup s.ported;
-      asd = (if s.asd then lookup.asd else []);
-      grn = (if s.grn then lookup.grn else []);
-      withheld = s.withheld;
+      rn = rn_of settings lookup fas s.effect.ported;
+      sp = sp_of lookup s.effect.ported;
+      asd = (if s.effect.asd then lookup.asd else []);
+      grn = (if s.effect.grn then lookup.grn else []);
+      withheld = s.effect.withheld;
     }
 
 -- what the actions come to beside their list, before the first
@@ -35,8 +35,7 @@ no_effect = record { response = 0; withheld = false; ported = false; asd = false
 
 -- so many actions listed, and what they have come to
 abbrev pub served_with : List ℕ → ℕ → Effect → Served
-served_with actions count e =
-    record { actions = actions; count = count; response = e.response; withheld = e.withheld; ported = e.ported; asd = e.asd; grn = e.grn }
+served_with actions count e = record { actions = actions; count = count; effect = e }
 
 -- one more action, by its code, field by field
 abbrev pub response_after : ℕ → ℕ → ℕ → ℕ

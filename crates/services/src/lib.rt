@@ -1,35 +1,22 @@
 // The service stage: a set's service actions carried out in list order over a lookup.
 #![tactic(auto)]
 
-ghost use Rattle.std.specs.Prelude.{◌≡◌, ◌≤◌, length};
+ghost use Rattle.std.specs.Prelude.{◌≡◌, length};
 ghost use Rattle.meaning.specs.Sizes.{SETTINGS-BYTES, LOOKUP-BYTES};
 ghost use Rattle.meaning.specs.Settings.{settings_of, lookup_of};
 ghost use Rattle.meaning.specs.Services.{unsuccessful};
-ghost use Rattle.services.specs.Stages.{no_effect, served_with, response_after, withheld_after, carried_after, effect_after, code_listed, Serviceable, ServedFrom, ServedAnew};
+ghost use Rattle.services.specs.Stages.{response_after, withheld_after, carried_after, effect_after, code_listed, Serviceable, ServedFrom, ServedAnew};
 
-use actions::code_at;
-use buffer::wide;
+use actions::codes_in;
 use meaning::sa::{ASDLKUP, CDIAL, CDPNNP, GRNLKUP, INPRTG};
 use meaning::sizes::{ACCEPTING_AT, ANSWERS_AT};
 
 // The response RELAY: the stage goes on. It ends at every response above.
 const RELAY: u8 = 1;
 
-// What the service actions have come to: those carried out, and their count; the response, 0 for none; whether formatting is withheld;
-// and whether CDPNNP, ASDLKUP and GRNLKUP were carried out, which decides the values that are set.
-#[derive(Clone, Copy)]
-pub struct Served {
-    pub actions: [u8; 8],
-    pub count: u8,
-    pub response: u8,
-    pub withheld: bool,
-    pub ported: bool,
-    pub asd: bool,
-    pub grn: bool,
-}
-
-// What the actions have come to beside the list of them.
-#[derive(Clone, Copy)]
+// What the service actions have come to: the response, 0 for none; whether formatting is withheld; and whether CDPNNP, ASDLKUP and GRNLKUP
+// were carried out, which decides the values that are set.
+#[derive(Clone, Copy, Default)]
 pub struct Effect {
     pub response: u8,
     pub withheld: bool,
@@ -38,33 +25,12 @@ pub struct Effect {
     pub grn: bool,
 }
 
-// None carried out yet.
-fn no_effect() -> Effect
-    ensures { result ≡ no_effect }
-{
-    Effect {
-        response: 0,
-        withheld: false,
-        ported: false,
-        asd: false,
-        grn: false,
-    }
-}
-
-// The first n of eight places list the actions carried out.
-fn served_with(places: [u8; 8], n: usize, e: Effect) -> Served
-    requires { n ≤ 8 }
-    ensures { result ≡ served_with places n e }
-{
-    Served {
-        actions: places,
-        count: n as u8,
-        response: e.response,
-        withheld: e.withheld,
-        ported: e.ported,
-        asd: e.asd,
-        grn: e.grn,
-    }
+// The service actions carried out, their count, and what they have come to.
+#[derive(Clone, Copy)]
+pub struct Served {
+    pub actions: [u8; 8],
+    pub count: u8,
+    pub effect: Effect,
 }
 
 // ONE ACTION, by its code. Each field has a test of its own, so that no jump by the code is needed.
@@ -97,6 +63,7 @@ fn carried_after(code: u8, action: u8, carried: bool) -> bool
 }
 
 // One action, for whether CDPNNP is unsuccessful and INPRTG's answer: CDPNNP sets RN and SP, ASDLKUP sets ASD, GRNLKUP sets GRN.
+#[tactic(auto, unfolding(crate::specs::Stages::effect_after))]
 fn carry_out(e: Effect, code: u8, fails: bool, answer: u8) -> Effect
     ensures { result ≡ effect_after code fails answer e }
 {
@@ -110,6 +77,7 @@ fn carry_out(e: Effect, code: u8, fails: bool, answer: u8) -> Effect
 }
 
 // The code by which an action is listed: one above CDIAL is carried out as CDIAL.
+#[tactic(auto, unfolding(crate::specs::Stages::code_listed))]
 fn code_listed(code: u8) -> u8
     ensures { result ≡ code_listed code }
 {
@@ -117,6 +85,7 @@ fn code_listed(code: u8) -> u8
 }
 
 // Whether CDPNNP is unsuccessful: there is no record, or one without entity where the settings do not say that any record is accepted.
+#[tactic(auto, unfolding(meaning::specs::Services::unsuccessful, meaning::specs::Settings::settings_of, meaning::specs::Settings::lookup_of))]
 fn is_unsuccessful(settings: &[u8], lookup: &[u8]) -> bool
     requires { (length settings.now ≡ SETTINGS-BYTES) × (length lookup.now ≡ LOOKUP-BYTES) }
     ensures { result ≡ unsuccessful (settings_of settings.now) (lookup_of lookup.now) }
@@ -131,22 +100,23 @@ pub fn serve(sas: &[u8], settings: &[u8], lookup: &[u8], places: [u8; 8]) -> Ser
     ensures { ServedFrom places sas.now settings.now lookup.now result }
 {
     let kind = lookup[0];
-    let answer = settings[ANSWERS_AT + wide(kind)];
+    let answer = settings[ANSWERS_AT + usize::from(kind)];
     let fails = is_unsuccessful(settings, lookup);
     let mut actions = places;
-    let mut e = no_effect();
-    let mut i = 0;
-    loop {
-        let code = code_at(sas, i);
-        if code == 0 {
-            return served_with(actions, i, e);
+    let mut count = 0;
+    let mut effect = Effect::default();
+    for code in codes_in(sas) {
+        if RELAY < effect.response {
+            break;
         }
-        if RELAY < e.response {
-            return served_with(actions, i, e);
-        }
-        actions[i] = code_listed(code);
-        e = carry_out(e, code, fails, answer);
-        i += 1;
+        actions[count] = code_listed(code);
+        effect = carry_out(effect, code, fails, answer);
+        count += 1;
+    }
+    Served {
+        actions,
+        count: count as u8,
+        effect,
     }
 }
 

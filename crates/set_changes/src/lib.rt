@@ -22,7 +22,8 @@ ghost use Rattle.changes.specs.Promise.{Provides, calls};
 
 use changes::content_given;
 use meaning::sizes::{OPENING_BYTES, ROOMS_BYTES, RULE_WIDTH, SET_WIDTH, SETS_AT};
-use meaning::{Provisioned, Refusal, RulePlace, SetNumber};
+use meaning::{Refusal, RulePlace, SetNumber};
+use plan::SoundPlan;
 
 // OPENING
 
@@ -46,43 +47,39 @@ fn lacks_room(size: usize, body: &[u8]) -> bool
 }
 
 // The refusal of an opening over a memory of `size` bytes.
-pub fn opening_refusal(size: usize, body: &[u8]) -> Provisioned
+pub fn opening_refusal(size: usize, body: &[u8]) -> Result<(), Refusal>
     requires { length body.now ≡ OPENING-BYTES }
     ensures { number_of_provisioned result ≡ first_of (opening_lines (lacks_bytes size) body.now) }
 {
     if !opening_in_range(body) {
-        return Provisioned::Refused(Refusal::Range);
+        return Err(Refusal::Range);
     }
     if lacks_room(size, body) {
-        return Provisioned::Refused(Refusal::Room);
+        return Err(Refusal::Room);
     }
-    Provisioned::Accepted
+    Ok(())
 }
 
 // An opening over any memory.
-pub fn open_known(plan: &mut [u8], body: &[u8]) -> Provisioned
+pub fn open_known(plan: &mut [u8], body: &[u8]) -> Result<(), Refusal>
     requires { length body.now ≡ OPENING-BYTES }
     ensures { Provides (calls open_plan body.now) plan.old plan.new (number_of_provisioned result) }
 {
-    match opening_refusal(plan.len(), body) {
-        Provisioned::Refused(r) => Provisioned::Refused(r),
-        Provisioned::Accepted => {
-            plan::start(
-                plan,
-                &body[0..ROOMS_BYTES],
-                &body[ROOMS_BYTES..OPENING_BYTES],
-            );
-            Provisioned::Accepted
-        }
-    }
+    opening_refusal(plan.len(), body)?;
+    plan::start(
+        plan,
+        &body[0..ROOMS_BYTES],
+        &body[ROOMS_BYTES..OPENING_BYTES],
+    );
+    Ok(())
 }
 
 // THE REFUSALS
 
 // Whether the set that a body gives is out of range: its number at or over the room, or its content.
-fn out_of_range(plan: &[u8], body: &[u8]) -> bool
-    requires { (sound_of plan.now ≡ true) × (length body.now ≡ SET-BODY) }
-    ensures { result ≡ (over_room (plan_of plan.now) (set_number body.now) || not (content_in_range (content_given body.now))) }
+fn out_of_range(plan: SoundPlan, body: &[u8]) -> bool
+    requires { length body.now ≡ SET-BODY }
+    ensures { result ≡ (over_room (plan_of plan.entry.memory.now) (set_number body.now) || not (content_in_range (content_given body.now))) }
 {
     if changes::is_over_room(plan, body, 0) {
         return true;
@@ -99,20 +96,20 @@ fn keeps_groups(body: &[u8]) -> bool
 }
 
 // The refusal of a set that is added.
-pub fn add_set_refusal(plan: &[u8], body: &[u8]) -> Provisioned
-    requires { (sound_of plan.now ≡ true) × (length body.now ≡ SET-BODY) }
-    ensures { number_of_provisioned result ≡ first_of (add_set_lines (plan_of plan.now) body.now) }
+pub fn add_set_refusal(plan: SoundPlan, body: &[u8]) -> Result<(), Refusal>
+    requires { length body.now ≡ SET-BODY }
+    ensures { number_of_provisioned result ≡ first_of (add_set_lines (plan_of plan.entry.memory.now) body.now) }
 {
     if out_of_range(plan, body) {
-        return Provisioned::Refused(Refusal::Range);
+        return Err(Refusal::Range);
     }
     if !keeps_groups(body) {
-        return Provisioned::Refused(Refusal::Groups);
+        return Err(Refusal::Groups);
     }
     if changes::is_held(plan, body, 0) {
-        return Provisioned::Refused(Refusal::Taken);
+        return Err(Refusal::Taken);
     }
-    Provisioned::Accepted
+    Ok(())
 }
 
 // Whether a content fits every one of the first `count` rules of an area that names a set.
@@ -121,78 +118,73 @@ fn all_fit(rules: &[u8], count: usize, set: SetNumber, content: &[u8]) -> bool
     requires rule_area { RuleArea count rules.now }
     ensures { result ≡ all (λ (x : Rule). not (names set.0 x) || fit (filter_in x) (actions_of content.now)) (rules_of count rules.now) }
 {
-    let wanted = set.0;
-    let mut i: usize = 0;
-    while i < count {
+    for i in 0..count {
         let named = filter::set_at(rules, RulePlace(i as u16));
-        if named.0 == wanted {
-            let a = RULE_WIDTH * i;
-            let e = a + RULE_WIDTH;
-            if !changes::fits(&rules[a..e], content) {
-                return false;
-            }
+        let a = RULE_WIDTH * i;
+        let e = a + RULE_WIDTH;
+        if named.0 == set.0 && !changes::fits(&rules[a..e], content) {
+            return false;
         }
-        i += 1;
     }
     true
 }
 
 // Whether the content that a body gives fits every rule that names its set.
-fn fits_rules(plan: &[u8], body: &[u8]) -> bool
-    requires { (sound_of plan.now ≡ true) × (length body.now ≡ SET-BODY) }
-    ensures { result ≡ all (λ (x : Rule). not (names (set_number body.now) x) || fit (filter_in x) (actions_of (content_given body.now))) (plan_of plan.now).rules }
+fn fits_rules(plan: SoundPlan, body: &[u8]) -> bool
+    requires { length body.now ≡ SET-BODY }
+    ensures { result ≡ all (λ (x : Rule). not (names (set_number body.now) x) || fit (filter_in x) (actions_of (content_given body.now))) (plan_of plan.entry.memory.now).rules }
 {
     all_fit(
-        plan::rules(plan),
-        plan::rule_count(plan),
+        plan.rules(),
+        plan.rule_count(),
         plan::set_number(body, 0),
         content_given(body),
     )
 }
 
 // The refusal of a set that is replaced.
-pub fn replace_set_refusal(plan: &[u8], body: &[u8]) -> Provisioned
-    requires { (sound_of plan.now ≡ true) × (length body.now ≡ SET-BODY) }
-    ensures { number_of_provisioned result ≡ first_of (replace_set_lines (plan_of plan.now) body.now) }
+pub fn replace_set_refusal(plan: SoundPlan, body: &[u8]) -> Result<(), Refusal>
+    requires { length body.now ≡ SET-BODY }
+    ensures { number_of_provisioned result ≡ first_of (replace_set_lines (plan_of plan.entry.memory.now) body.now) }
 {
     if out_of_range(plan, body) {
-        return Provisioned::Refused(Refusal::Range);
+        return Err(Refusal::Range);
     }
     if !keeps_groups(body) {
-        return Provisioned::Refused(Refusal::Groups);
+        return Err(Refusal::Groups);
     }
     if !changes::is_held(plan, body, 0) {
-        return Provisioned::Refused(Refusal::Absent);
+        return Err(Refusal::Absent);
     }
     if !fits_rules(plan, body) {
-        return Provisioned::Refused(Refusal::Misfit);
+        return Err(Refusal::Misfit);
     }
-    Provisioned::Accepted
+    Ok(())
 }
 
 // Whether a rule names the set that a body names.
-fn is_named(plan: &[u8], body: &[u8]) -> bool
-    requires { (sound_of plan.now ≡ true) × (length body.now ≡ SET-NUMBER-BYTES) }
-    ensures { result ≡ any (names (set_number body.now)) (plan_of plan.now).rules }
+fn is_named(plan: SoundPlan, body: &[u8]) -> bool
+    requires { length body.now ≡ SET-NUMBER-BYTES }
+    ensures { result ≡ any (names (set_number body.now)) (plan_of plan.entry.memory.now).rules }
 {
-    0 < plan::referrers(plan, plan::set_number(body, 0))
+    0 < plan.referrers(plan::set_number(body, 0))
 }
 
 // The refusal of a set that is removed.
-pub fn remove_set_refusal(plan: &[u8], body: &[u8]) -> Provisioned
-    requires { (sound_of plan.now ≡ true) × (length body.now ≡ SET-NUMBER-BYTES) }
-    ensures { number_of_provisioned result ≡ first_of (remove_set_lines (plan_of plan.now) body.now) }
+pub fn remove_set_refusal(plan: SoundPlan, body: &[u8]) -> Result<(), Refusal>
+    requires { length body.now ≡ SET-NUMBER-BYTES }
+    ensures { number_of_provisioned result ≡ first_of (remove_set_lines (plan_of plan.entry.memory.now) body.now) }
 {
     if changes::is_over_room(plan, body, 0) {
-        return Provisioned::Refused(Refusal::Range);
+        return Err(Refusal::Range);
     }
     if !changes::is_held(plan, body, 0) {
-        return Provisioned::Refused(Refusal::Absent);
+        return Err(Refusal::Absent);
     }
     if is_named(plan, body) {
-        return Provisioned::Refused(Refusal::InUse);
+        return Err(Refusal::InUse);
     }
-    Provisioned::Accepted
+    Ok(())
 }
 
 // WHAT AN ACCEPTED CALL MAKES

@@ -18,6 +18,7 @@ use Rattle.descriptors.specs.Moves.{Fillable, FillPromise}
 use Rattle.descriptors.specs.declared.Source.{Source}
 use Rattle.descriptors.specs.declared.Sink.{Sink}
 use Rattle.descriptors.specs.declared.AtHand.{AtHand}
+use Rattle.pump.specs.Pumps.{is_over}
 use Rattle.stream.specs.Turnings.{SuppliesBy, SupplyPromise, Suppliable, rest_by, ending_by, turned_by}
 use Rattle.stream.specs.declared.Turned.{Turned}
 use Rattle.stream.specs.declared.Turned.TheVariants.{Goes, Done, NotWritten}
@@ -79,17 +80,17 @@ module _ (s : Source) (left : ℕ) (input : List ℕ) where
 -- HOW A TURN ENDED
 
 module _ (h : AtHand) (p : Pumped) (sink : Sink) where
-  so : {t : Turned} (failed over : Bool) → sink.failed ≡ failed → p.over ≡ over
+  so : {t : Turned} (failed over : Bool) → sink.failed ≡ failed → is_over p.stop ≡ over
       → t ≡ (if failed then NotWritten (rest_by h p sink) else if over then Done (ending_by h p sink) else Goes (rest_by h p sink)) → t ≡ turned_by h p sink
   so {t} failed over f o e =
-      subst (λ (b : Bool). t ≡ (if b then NotWritten (rest_by h p sink) else if p.over then Done (ending_by h p sink) else Goes (rest_by h p sink))) (sym f)
+      subst (λ (b : Bool). t ≡ (if b then NotWritten (rest_by h p sink) else if is_over p.stop then Done (ending_by h p sink) else Goes (rest_by h p sink))) (sym f)
       (subst (λ (b : Bool). t ≡ (if failed then NotWritten (rest_by h p sink) else if b then Done (ending_by h p sink) else Goes (rest_by h p sink))) (sym o) e)
 
   pub unwritten-so : sink.failed ≡ true → NotWritten (rest_by h p sink) ≡ turned_by h p sink
-  unwritten-so f = so true p.over f refl refl
+  unwritten-so f = so true (is_over p.stop) f refl refl
 
-  pub goes_so : sink.failed ≡ false → p.over ≡ false → Goes (rest_by h p sink) ≡ turned_by h p sink
+  pub goes_so : sink.failed ≡ false → is_over p.stop ≡ false → Goes (rest_by h p sink) ≡ turned_by h p sink
   goes_so f o = so false false f o refl
 
-  pub done-so : sink.failed ≡ false → p.over ≡ true → Done (ending_by h p sink) ≡ turned_by h p sink
+  pub done-so : sink.failed ≡ false → is_over p.stop ≡ true → Done (ending_by h p sink) ≡ turned_by h p sink
   done-so f o = so false true f o refl

@@ -1,6 +1,6 @@
 -- Chains of turns: what they wrote is document 01's text of what they were given.
 use Prim.Native.Nat.{ℕ, zero, suc, ◌+◌, ◌-◌, ◌≤◌}
-use mathlib.Core.Path.{◌≡◌, refl, ap, sym, subst, ◌∙◌}
+use mathlib.Core.Path.{◌≡◌, refl, ap, ap₂, sym, subst, ◌∙◌}
 use mathlib.Core.Logic.{◌⊎◌, inl, inr}
 use mathlib.Core.Bool.{Bool, true, false}
 use mathlib.Core.List.{List, [], ◌++◌, append_assoc, append-nil}
@@ -16,13 +16,14 @@ use Rattle.record.proofs.Steps.{any_run}
 use Rattle.pump.proofs.Pumping.{none_before, both_before}
 use Rattle.pump.proofs.SomeRuns.{SomeRun, some_run}
 use Rattle.descriptors.specs.Moves.{sent}
+use Rattle.pump.specs.Pumps.{is_over, refusal_of}
 use Rattle.stream.specs.Turnings.{left_in, rest_by, ending_by, Turnable, Turning}
 use Rattle.stream.specs.Copies.{given_in, written_in, Chain, begun, turned, CopyPromise, WholeFile, Begins, AnyCopy, AnyFront, AnyUnwritten, FewTurns, EachMoves}
 use Rattle.stream.specs.declared.Rest.{Rest}
 use Rattle.stream.specs.declared.Turned.{Turned}
 use Rattle.stream.specs.declared.Turned.TheVariants.{Goes, Done, NotWritten}
 use Rattle.stream.proofs.Beginning.{no_plan}
-use Rattle.stream.proofs.TurnLaws.{place_of, as_turned, goes_on, ends, none_behind, moves, place_on, given_on, written_long}
+use Rattle.stream.proofs.TurnLaws.{ending_is, place_of, as_turned, goes_on, ends, none_behind, moves, place_on, given_on, written_long}
 
 -- every run over what is left, and whatever comes behind, makes one over all that was given and the same behind
 abbrev Extends : ℕ → List ℕ → List ℕ → Lent → List ℕ → Rest → Type 0
@@ -97,7 +98,7 @@ module _ (from to : ℤ) (size : ℕ) (first_input first_output : List ℕ) (aft
       w = c.ends
 
       end : RunEnd
-      end = run_end_behind w.so.pumped.taken (run_end_here w.so.pumped.refusal after)
+      end = run_end_behind w.so.pumped.taken (run_end_here (refusal_of w.so.pumped.stop) after)
 
       all : (more : List ℕ) → (w.hand.source.ended ≡ true → more ≡ [])
           → (c.written ++ written_in w ≡ file_text (c.given ++ (given_in w ++ more))) × (end_of (run_end_behind (place_of c.rest) end) ≡ file_end (c.given ++ (given_in w ++ more)))
@@ -111,7 +112,7 @@ module _ (from to : ℤ) (size : ℕ) (first_input first_output : List ℕ) (aft
           record {
             text_is = λ more last. (all more last).0 ∙ ap file_text (sym (append_assoc c.given (given_in w) more));
             end_is = λ more last.
-                ap (λ (k : ℕ). record { refusal = w.so.pumped.refusal; place = k; house = house_of after }) place
+                ap₂ (λ (r k : ℕ). record { refusal = r; place = k; house = house_of after }) (ending_is w.so.pumped.stop) place
                 ∙ ((all more last).1 ∙ ap file_end (sym (append_assoc c.given (given_in w) more)));
             all_given = given_on c.ready w ∙ (ap (λ (k : ℕ). k + length (given_in w)) (all_given c.chain) ∙ sym (length-append c.given (given_in w)));
             all_written =
@@ -126,7 +127,7 @@ module _ (from to : ℤ) (size : ℕ) (first_input first_output : List ℕ) (aft
       record { behind = r.text; is = sym (all_of c more r.text r.end last r.runs).0 }
 
   pub any_unwritten : AnyUnwritten from to size first_input first_output after input_left output_left
-  any_unwritten u c more ended = go w.so.pumped.over refl
+  any_unwritten u c more ended = go (is_over w.so.pumped.stop) refl
     where
       w : Turning c.memory c.rest c.input c.output after input_left output_left (NotWritten u)
       w = c.ends
@@ -145,9 +146,9 @@ module _ (from to : ℤ) (size : ℕ) (first_input first_output : List ℕ) (aft
           record { behind = texts; is = ap file_text (append_assoc c.given (given_in w) more) ∙ (sym all ∙ sym (append_assoc c.written (written_in w) texts)) }
 
       end : RunEnd
-      end = run_end_behind w.so.pumped.taken (run_end_here w.so.pumped.refusal after)
+      end = run_end_behind w.so.pumped.taken (run_end_here (refusal_of w.so.pumped.stop) after)
 
-      go : (b : Bool) → w.so.pumped.over ≡ b → Begins (file_text ((c.given ++ given_in w) ++ more)) (c.written ++ written_in w)
+      go : (b : Bool) → is_over w.so.pumped.stop ≡ b → Begins (file_text ((c.given ++ given_in w) ++ more)) (c.written ++ written_in w)
       go true o = with_text [] end (subst (λ (x : List ℕ). Runs c.memory c.rest.run at_hand_lem x end) (sym (append-nil (written_in w))) (ends c.ready w o more last))
       go false o =
           let left : List ℕ = left_in (rest_by w.hand w.so.pumped (sent c.rest.sink w.so.pumped.written true)) input_left ++ more in

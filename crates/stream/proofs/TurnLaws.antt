@@ -15,14 +15,16 @@ use Rattle.buffer.proofs.ListLaws.{drop_take}
 use Rattle.text.specs.Writes.{LONGEST}
 use Rattle.record.specs.Turns.{wants, turn, is_whole}
 use Rattle.record.specs.declared.Run.{Run}
-use Rattle.record.specs.Promises.{Lent, lent, house_of, Runs, RunEnd, run_end_here, run_end_behind}
+use Rattle.record.specs.Promises.{Lent, lent, house_of, ending_number, Runs, RunEnd, run_end_here, run_end_behind}
 use Rattle.record.proofs.Steps.{room_turn_goes, ended_turn_goes, whole_turn_goes}
-use Rattle.pump.specs.Pumps.{PumpPromise}
+use Rattle.pump.specs.Pumps.{PumpPromise, is_full, is_over, refusal_of}
+use Rattle.pump.specs.declared.Stop.{Stop}
+use Rattle.pump.specs.declared.Stop.TheVariants.{Wants, Full, Over}
 use Rattle.pump.specs.declared.Pumped.{Pumped}
 use Rattle.descriptors.specs.Moves.{MOST, sent}
 use Rattle.descriptors.specs.declared.Sink.{Sink}
 use Rattle.descriptors.specs.declared.AtHand.{AtHand}
-use Rattle.stream.specs.Turnings.{left_of, left_in, GatherPromise, rest_by, ending_by, turned_by, rest_in, Advanceable, Turnable, Turning}
+use Rattle.stream.specs.Turnings.{left_of, left_in, GatherPromise, rest_by, ending_of, ending_by, turned_by, rest_in, Advanceable, Turnable, Turning}
 use Rattle.stream.specs.Copies.{given_in, written_in}
 use Rattle.stream.specs.declared.Rest.{Rest}
 use Rattle.stream.specs.declared.Turned.{Turned}
@@ -36,18 +38,24 @@ place_of rest = rest.source.given - left_of rest
 
 -- HOW IT ENDED, by the answer
 
+-- its refusal's number is that of the stop
+pub ending_is : (s : Stop) → ending_number (ending_of s) ≡ refusal_of s
+ending_is Wants = refl
+ending_is Full = refl
+ending_is (Over r) = refl
+
 module _ (hand : AtHand) (pumped : Pumped) (sink : Sink) (n : ℕ) where
   abbrev TurnedAs : Turned → Type 0
-  TurnedAs (Goes next) = (pumped.over ≡ false) × (next ≡ rest_by hand pumped (sent sink n true))
-  TurnedAs (Done e) = (pumped.over ≡ true) × (e ≡ ending_by hand pumped (sent sink n true))
+  TurnedAs (Goes next) = (is_over pumped.stop ≡ false) × (next ≡ rest_by hand pumped (sent sink n true))
+  TurnedAs (Done e) = (is_over pumped.stop ≡ true) × (e ≡ ending_by hand pumped (sent sink n true))
   TurnedAs (NotRead r) = ⊥
   TurnedAs (NotWritten r) = r ≡ rest_by hand pumped (sent sink n false)
   TurnedAs (Spent r) = ⊥
 
   turned_as : (done : Bool) → TurnedAs (turned_by hand pumped (sent sink n done))
-  turned_as true = go pumped.over refl
+  turned_as true = go (is_over pumped.stop) refl
     where
-      go : (o : Bool) → pumped.over ≡ o → TurnedAs (if o then Done (ending_by hand pumped (sent sink n true)) else Goes (rest_by hand pumped (sent sink n true)))
+      go : (o : Bool) → is_over pumped.stop ≡ o → TurnedAs (if o then Done (ending_by hand pumped (sent sink n true)) else Goes (rest_by hand pumped (sent sink n true)))
       go true e = (e, refl)
       go false e = (e, refl)
   turned_as false = refl
@@ -99,7 +107,7 @@ module _ {m after : Lent} {rest : Rest} {input output input_left output_left : L
 
   -- IT GOES ON
 
-  module _ (over : p.over ≡ false) where
+  module _ (over : is_over p.stop ≡ false) where
     abbrev next : Rest
     next = rest_by h p (sent rest.sink p.written true)
 
@@ -136,7 +144,7 @@ module _ {m after : Lent} {rest : Rest} {input output input_left output_left : L
     moves = go (ltb 0 (length (given_in w) + length (written_in w))) refl
       where
         stuck : h.end ≡ left_of rest → p.written ≡ 0 → ⊥
-        stuck none idle = kind p.full refl
+        stuck none idle = kind (is_full p.stop) refl
           where
             same : (after ≡ m) × (p.taken ≡ 0) × (p.run ≡ rest.run)
             same = w.so.steps.idle over idle
@@ -148,7 +156,7 @@ module _ {m after : Lent} {rest : Rest} {input output input_left output_left : L
             part_is : drop p.taken (take h.end input_left) ≡ left_in rest input
             part_is = ap₂ (λ (a e : ℕ). drop a (take e input_left)) same.1 none ∙ at_hand_lem.kept
 
-            kind : (b : Bool) → p.full ≡ b → ⊥
+            kind : (b : Bool) → is_full p.stop ≡ b → ⊥
             kind true f = room_turn_goes (house_of after) p.run.lines h.source.ended (drop p.taken (take h.end input_left)) (length output - p.written) room (w.so.steps.stops_full f)
             kind false f = why (at_hand_lem.idle_why w.so.read none)
               where
@@ -170,10 +178,10 @@ module _ {m after : Lent} {rest : Rest} {input output input_left output_left : L
 
   -- READING HAS ENDED
 
-  pub ends : p.over ≡ true → (more : List ℕ) → (h.source.ended ≡ true → more ≡ [])
-      → Runs m rest.run (left_in rest input ++ (given_in w ++ more)) (written_in w) (run_end_behind p.taken (run_end_here p.refusal after))
+  pub ends : is_over p.stop ≡ true → (more : List ℕ) → (h.source.ended ≡ true → more ≡ [])
+      → Runs m rest.run (left_in rest input ++ (given_in w ++ more)) (written_in w) (run_end_behind p.taken (run_end_here (refusal_of p.stop) after))
   ends over more last =
-      subst (λ (l : List ℕ). Runs m rest.run l (written_in w) (run_end_behind p.taken (run_end_here p.refusal after))) (whole more) (w.so.steps.ends over more last)
+      subst (λ (l : List ℕ). Runs m rest.run l (written_in w) (run_end_behind p.taken (run_end_here (refusal_of p.stop) after))) (whole more) (w.so.steps.ends over more last)
 
   -- THE COUNTS
 
@@ -195,7 +203,7 @@ module _ {m after : Lent} {rest : Rest} {input output input_left output_left : L
 
 -- however a turn ended, the state is the one that the steps left
 turned_run : (h : AtHand) (p : Pumped) (sink : Sink) → (rest_in (turned_by h p sink)).run ≡ p.run
-turned_run h p sink = go sink.failed p.over
+turned_run h p sink = go sink.failed (is_over p.stop)
   where
     go : (a b : Bool)
         → (rest_in (if a then NotWritten (rest_by h p sink) else if b then Done (ending_by h p sink) else Goes (rest_by h p sink))).run ≡ p.run

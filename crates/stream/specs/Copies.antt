@@ -4,7 +4,7 @@ use Rattle.meaning.specs.Ledger.{empty_ledger}
 use Rattle.meaning.specs.Records.{file_text, file_end}
 use Rattle.buffer.specs.Zeros.{zeros}
 use Rattle.record.specs.declared.Run.{Run}
-use Rattle.record.specs.Promises.{Lent, house_of, start, new_lent}
+use Rattle.record.specs.Promises.{Lent, house_of, ending_number, start, new_lent}
 use Rattle.descriptors.specs.Moves.{new_source, new_sink}
 use Rattle.stream.specs.Turnings.{left_of, Turnable, UnreadTurn, Turning}
 use Rattle.stream.specs.declared.Rest.{Rest}
@@ -72,7 +72,7 @@ pub record CopyPromise (from to : ℤ) (size : ℕ) (first_input first_output : 
 -- given, and the sink all that was written. That the system gave and took these very bytes no promise says (docs/PROMISES.md).
 pub record WholeFile (given written : List ℕ) (after : Lent) (e : Ending) : Type 0 where
   pub text_is : (more : List ℕ) → (e.rest.source.ended ≡ true → more ≡ []) → written ≡ file_text (given ++ more)
-  pub end_is : (more : List ℕ) → (e.rest.source.ended ≡ true → more ≡ []) → record { refusal = e.refusal; place = e.place; house = house_of after } ≡ file_end (given ++ more)
+  pub end_is : (more : List ℕ) → (e.rest.source.ended ≡ true → more ≡ []) → record { refusal = ending_number e.refusal; place = e.place; house = house_of after } ≡ file_end (given ++ more)
   pub all_given : e.rest.source.given ≡ length given
   pub all_written : e.rest.sink.written ≡ length written
 

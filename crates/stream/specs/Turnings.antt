@@ -7,6 +7,11 @@ use Rattle.text.specs.Writes.{LONGEST}
 use Rattle.record.specs.Turns.{is_whole}
 use Rattle.record.specs.Promises.{Lent, InHouse}
 use Rattle.pump.specs.Pumps.{PumpPromise}
+use Rattle.std.specs.Prelude.{Option as Optional, None}
+use Rattle.meaning.specs.declared.Refusal.{Refusal}
+use Rattle.pump.specs.Pumps.{is_over}
+use Rattle.pump.specs.declared.Stop.{Stop}
+use Rattle.pump.specs.declared.Stop.TheVariants.{Wants, Full, Over}
 use Rattle.pump.specs.declared.Pumped.{Pumped}
 use Rattle.descriptors.specs.Moves.{MOST, FillPromise, sent}
 use Rattle.descriptors.specs.declared.Source.{Source}
@@ -67,13 +72,19 @@ unread_of rest hand = record { run = rest.run; source = hand.source; sink = rest
 abbrev pub rest_by : AtHand → Pumped → Sink → Rest
 rest_by hand pumped sink = record { run = pumped.run; source = hand.source; sink = sink; at = pumped.taken; end = hand.end }
 
+-- the refusal that ended reading, if one did
+abbrev pub ending_of : Stop → Optional Refusal
+ending_of Wants = None
+ending_of Full = None
+ending_of (Over r) = r
+
 -- the place in the file: all that was given, less what is not taken
 abbrev pub ending_by : AtHand → Pumped → Sink → Ending
-ending_by hand pumped sink = record { refusal = pumped.refusal; place = hand.source.given - (hand.end - pumped.taken); rest = rest_by hand pumped sink }
+ending_by hand pumped sink = record { refusal = ending_of pumped.stop; place = hand.source.given - (hand.end - pumped.taken); rest = rest_by hand pumped sink }
 
 abbrev pub turned_by : AtHand → Pumped → Sink → Turned
 turned_by hand pumped sink =
-    if sink.failed then NotWritten (rest_by hand pumped sink) else if pumped.over then Done (ending_by hand pumped sink) else Goes (rest_by hand pumped sink)
+    if sink.failed then NotWritten (rest_by hand pumped sink) else if is_over pumped.stop then Done (ending_by hand pumped sink) else Goes (rest_by hand pumped sink)
 
 -- where the copy stands then; the state of the run holds the whole's totals of the ledger
 abbrev pub rest_in : Turned → Rest

@@ -12,9 +12,9 @@ ghost use Rattle.stream.specs.Turnings.{SupplyPromise, Suppliable, GatherPromise
 ghost use Rattle.stream.specs.Copies.{BUFFER, BeginPromise, CopyPromise};
 
 use descriptors::{AtHand, Sink, Source};
-use meaning::Totals;
 use meaning::sizes::LEDGER_NUMBERS;
-use pump::Pumped;
+use meaning::{Refusal, Totals};
+use pump::{Pumped, Stop};
 use record::Run;
 use std::io::{Read, Write};
 
@@ -29,11 +29,11 @@ pub struct Rest {
     pub end: usize,
 }
 
-// Reading has ended: the refusal that ended it, or 0 where the file has come to its end; the place in the file of that record's kind byte, counted from 0, or
+// Reading has ended: the refusal that ended it, or none where the file has come to its end; the place in the file of that record's kind byte, counted from 0, or
 // the file's length; and where the copy stands.
 #[derive(Clone, Copy)]
 pub struct Ending {
-    pub refusal: u8,
+    pub refusal: Option<Refusal>,
     pub place: u64,
     pub rest: Rest,
 }
@@ -148,15 +148,18 @@ fn conclude(h: AtHand, p: Pumped, sink: Sink) -> Turned
     if sink.failed() {
         return Turned::NotWritten(rest);
     }
-    if !p.over {
-        return Turned::Goes(rest);
+    match p.stop {
+        Stop::Wants => Turned::Goes(rest),
+        Stop::Full => Turned::Goes(rest),
+        Stop::Over(refusal) => {
+            let left = h.end - p.taken;
+            Turned::Done(Ending {
+                refusal,
+                place: source.given() - left as u64,
+                rest,
+            })
+        }
     }
-    let left = h.end - p.taken;
-    Turned::Done(Ending {
-        refusal: p.refusal,
-        place: source.given() - left as u64,
-        rest: rest,
-    })
 }
 
 // Steps over the input at hand, and a write of what they wrote; nothing where the read failed.

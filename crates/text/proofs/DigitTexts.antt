@@ -4,29 +4,18 @@ use mathlib.Core.Path.{◌≡◌, refl, sym, ap, ◌∙◌}
 use mathlib.Core.List.{List, [], ◌∷◌, ◌++◌, map}
 use native.Mathlib.Nat.{not-suc-le-zero, le_of_suc-le-suc}
 use native.Mathlib.Omega.{arith}
-use lib.Dec.{T, leb→le}
-use lib.ListN.{length, take, drop, get_or, set, length-append, length-map, drop_of_length-le}
+use lib.Dec.{T}
+use lib.ListN.{length, take, drop, get_or, set, length-append, length-map}
 use lib.Seq.{take-take}
-use borrow.Author.Tests.{lt-ltb, le-ltb}
 use borrow.Rule.Slice.PartMut.{put_mid, mid_of}
 use Rattle.meaning.specs.Basics.{all, is_digit, written_over}
 use Rattle.meaning.specs.Records.{digit_text, digits_text, prefix_text}
-use Rattle.meaning.proofs.Tests.{all_take, all_drop, all_place}
+use Rattle.meaning.proofs.Tests.{all_take, all_drop}
 use Rattle.buffer.proofs.Moves.{Seam, seam_none, seam_more, seam_all}
 use Rattle.blocks.proofs.OverLaws.{seam_block}
 use Rattle.buffer.proofs.ListLaws.{map_take, map_drop}
 use Rattle.text.specs.Writes.{Writes, digits_or}
-use Rattle.text.proofs.Lines.{stored, named, byte_behind}
-
--- ONE DIGIT
-
-pub digit_low : (d : ℕ) → d < 10 → 48 + d ≡ digit_text d
-unfolding digit_text
-digit_low d h = rw (lt-ltb d 10 h)
-
-pub digit_high : (d : ℕ) → 10 ≤ d → 97 + (d - 10) ≡ digit_text d
-unfolding digit_text
-digit_high d h = rw (le-ltb d 10 h) (omega arith)
+use Rattle.text.proofs.Lines.{named, byte_behind}
 
 text_at : (xs : List ℕ) (i : ℕ) → i < length xs → get_or (map digit_text xs) i 0 ≡ digit_text (get_or xs i 0)
 text_at [] i h = absurd (not-suc-le-zero h)
@@ -39,9 +28,6 @@ pub texts_none : (ds out : List ℕ) → length ds ≤ length out → Seam (map 
 texts_none ds out h = seam_none (map digit_text ds) out (rw (length-map ds digit_text) h)
 
 module _ (ds : List ℕ) {i : ℕ} where
-  pub next_digit : T (all is_digit ds) → i < length ds → get_or ds i 0 < 16
-  next_digit t h = omega (arith, leb→le (get_or ds i 0) 15 (all_place is_digit ds 0 i t h))
-
   pub texts_more : {out s : List ℕ} {v : ℕ} → Seam (map digit_text ds) out i s → i < length ds → v ≡ digit_text (get_or ds i 0)
       → Seam (map digit_text ds) out (i + 1) (set s i v)
   texts_more {out} {s} {v} g h e = seam_more v g (rw (length-map ds digit_text) h) (e ∙ sym (text_at ds i h))
@@ -73,9 +59,6 @@ digits_some none [] h = absurd (not-suc-le-zero h)
 digits_some none (d ∷ ds) h = refl
 
 module _ (none behind : ℕ) (ds out : List ℕ) where
-  pub no_digits : length ds ≡ 0 → 2 ≤ length out → Writes (digits_or none ds ++ behind ∷ []) out (set (set out 0 none) 1 behind) 2
-  no_digits e h = let few : length ds ≤ 0 = omega arith in named (rw (drop_of_length-le ds few)) (stored (none ∷ behind ∷ []) out h)
-
   pub some_digits : (length ds ≡ 0 → ⊥) → length ds < length out → {after : List ℕ} → after ≡ written_over (map digit_text ds) out
       → Writes (digits_or none ds ++ behind ∷ []) out (set after (length ds) behind) (length ds + 1)
   some_digits z h {after} e =

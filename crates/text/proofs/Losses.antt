@@ -1,26 +1,22 @@
 -- Whole cents with their sign, and that a ledger in range loses no more of them than a line has room for.
-use Prim.Native.Nat.{ℕ, zero, suc, ◌+◌, ◌-◌, ◌*◌, ◌/◌, ◌≤◌}
-use mathlib.Core.Path.{◌≡◌, refl, sym, subst}
-use mathlib.Core.Bool.{Bool, true, false, cond}
-use mathlib.Core.List.{List, [], ◌∷◌, ◌++◌, append_assoc}
+use Prim.Native.Nat.{ℕ, zero, suc, ◌+◌, ◌*◌, ◌/◌, ◌≤◌}
+use mathlib.Core.Path.{◌≡◌}
+use mathlib.Core.Bool.{true}
 use native.Mathlib.Omega.{arith}
-use lib.Dec.{T, ltb, leb, leb→le, le→leb}
+use lib.Dec.{T, leb, leb→le, le→leb}
 use lib.IntN.{ℤ, pos, negsuc, neg_ℤ, nat_abs, ◌-ℤ◌, ◌*ℤ◌}
-use lib.Signed.{mag, lt_z, le_z, non_neg}
+use lib.Signed.{mag, le_z, non_neg}
 use lib.ListN.{length}
+use Rattle.std.proofs.lemmas.Int.{ints}
 use mir.Syntax.{w64}
-use mir.Val.{Fits, SFits, to_z, of_z}
+use mir.Val.{SFits, to_z, of_z}
 use mir.ValLaws.{to_z-of_z}
-use borrow.Author.Tests.{ltb-true}
 use Rattle.meaning.specs.Ledger.{LEDGER-LIMIT, UNIT-LIMIT, sum_in_range, totals_tests, totals_in_range, loss_of, cents}
-use Rattle.meaning.specs.Records.{decimal, signed_decimal, line}
+use Rattle.meaning.specs.Records.{decimal}
 use Rattle.meaning.specs.declared.Totals.{Totals}
 use Rattle.meaning.proofs.Tests.{true_is, and_right, all_at}
 use Rattle.text.specs.Writes.{Printable}
 use Rattle.text.proofs.Lines.{decimal_long}
-
-never : {X : Type 0} → false ≡ true → X
-never e = absurd (subst T (sym e) tt)
 
 -- a number as the code reads it from its bits
 abbrev pub as_read : ℤ → ℤ
@@ -32,58 +28,8 @@ size_few : (x : ℤ) → Printable x → nat_abs x ≤ 14400000000001
 size_few (pos n) p = omega (arith, p.size)
 size_few (negsuc n) p = omega (arith, p.size)
 
--- y is not below zero, and as far from it as x
-pub record Unsigned (x y : ℤ) : Type 0 where
-  pub fits : SFits w64 y
-  pub cast : T (non_neg (as_read y)) × Fits w64 (nat_abs (as_read y))
-  pub same : nat_abs (as_read y) ≡ nat_abs x
-
-unsigned : (x : ℤ) (n : ℕ) → Printable x → n ≡ nat_abs x → Unsigned x (pos n)
-unsigned x n p e =
-    let f : SFits w64 (pos n) = record { sfits = omega (arith, size_few x p) } in
-    let t : as_read (pos n) ≡ pos n = to_z-of_z w64 (pos n) f in
-    record { fits = f; cast = rw t (tt, record { fits = omega (arith, size_few x p) }); same = rw t e }
-
--- below zero it is turned round
-pub turned : (x : ℤ) → Printable x → SFits w64 x → lt_z (as_read x) (pos 0) ≡ true → Unsigned x (pos 0 -ℤ as_read x)
-turned x p f e = rw (to_z-of_z w64 x f) (go x p (rw (to_z-of_z w64 x f) at e))
-  where
-    go : (x : ℤ) → Printable x → lt_z x (pos 0) ≡ true → Unsigned x (pos 0 -ℤ x)
-    go (pos n) p e = absurd (omega (arith, ltb-true n 0 e))
-    go (negsuc n) p e = unsigned (negsuc n) (0 + suc n) p (omega arith)
-
-pub kept : (x : ℤ) → Printable x → SFits w64 x → lt_z (as_read x) (pos 0) ≡ false → Unsigned x x
-kept x p f e = go x p (rw (to_z-of_z w64 x f) at e)
-  where
-    go : (x : ℤ) → Printable x → lt_z x (pos 0) ≡ false → Unsigned x x
-    go (pos n) p e = unsigned (pos n) n p refl
-    go (negsuc n) p e = never (sym e)
-
--- ITS TEXT
-
-module _ (x : ℤ) (f : SFits w64 x) where
-  -- n is its size
-  module _ {n : ℕ} (k : n ≡ nat_abs (as_read x)) where
-    pub size_short : Printable x → length (decimal n) ≤ 14
-    size_short p = rw (k, to_z-of_z w64 x f) (decimal_long 13 (nat_abs x) (omega (arith, size_few x p)))
-
-    pub below_is : (b : ℕ) → lt_z (as_read x) (pos 0) ≡ true → (45 ∷ []) ++ (decimal n ++ b ∷ []) ≡ signed_decimal x ++ b ∷ []
-    below_is b e = rw (k, to_z-of_z w64 x f) (go x (rw (to_z-of_z w64 x f) at e))
-      where
-        go : (x : ℤ) → lt_z x (pos 0) ≡ true → (45 ∷ []) ++ (decimal (nat_abs x) ++ b ∷ []) ≡ signed_decimal x ++ b ∷ []
-        go (pos n) e = absurd (omega (arith, ltb-true n 0 e))
-        go (negsuc n) e = refl
-
-    pub above_is : (b : ℕ) → lt_z (as_read x) (pos 0) ≡ false → decimal n ++ b ∷ [] ≡ signed_decimal x ++ b ∷ []
-    above_is b e = rw (k, to_z-of_z w64 x f) (go x (rw (to_z-of_z w64 x f) at e))
-      where
-        go : (x : ℤ) → lt_z x (pos 0) ≡ false → decimal (nat_abs x) ++ b ∷ [] ≡ signed_decimal x ++ b ∷ []
-        go (pos n) e = refl
-        go (negsuc n) e = never (sym e)
-
-  -- behind another word and its space
-  pub loss_is : (word : List ℕ) → (word ++ 32 ∷ []) ++ (signed_decimal (as_read x) ++ 10 ∷ []) ≡ line (word ∷ signed_decimal x ∷ [])
-  loss_is word = rw (to_z-of_z w64 x f) (simp append_assoc)
+pub size_short : (x : ℤ) → SFits w64 x → {n : ℕ} → n ≡ nat_abs (as_read x) → Printable x → length (decimal n) ≤ 14
+size_short x f k p = rw (k, to_z-of_z w64 x f) (decimal_long 13 (nat_abs x) (omega (arith, size_few x p)))
 
 -- A LEDGER IN RANGE
 
@@ -110,12 +56,7 @@ sum_few (negsuc c) (pos n) h t = record { plus = tt; few = go (suc c * UNIT-LIMI
 
 -- due less billed
 less_few : (a b : ℤ) → Sum a → Sum b → mag (a -ℤ b) ≤ MOST
-less_few (pos a) (pos zero) p q = omega (arith, p.few)
-less_few (pos a) (pos (suc b)) p q = go (ltb a (suc b)) p.few q.few
-  where
-    go : (t : Bool) → a ≤ MOST → suc b ≤ MOST → mag (cond t (negsuc (suc b - suc a)) (pos (a - suc b))) ≤ MOST
-    go true h k = omega arith
-    go false h k = omega arith
+less_few (pos a) (pos b) p q = grind (arith, ints, p.few, q.few)
 less_few (pos a) (negsuc b) p q = absurd q.plus
 less_few (negsuc a) b p q = absurd p.plus
 

@@ -1,7 +1,7 @@
 // The text of each line that a record writes, at the front of a lent buffer; the bytes behind it stay.
 #![tactic(auto)]
 
-ghost use Rattle.std.specs.Prelude.{◌≡◌, ◌++◌, [], ◌∷◌, map, ◌+◌, ◌≤◌, ◌<◌, length, take, T, nat_abs};
+ghost use Rattle.std.specs.Prelude.{◌≡◌, ◌++◌, [], ◌∷◌, map, ◌+◌, ◌≤◌, ◌<◌, length, take, T};
 ghost use Rattle.meaning.specs.Basics.{all, is_digit, written_over};
 ghost use Rattle.meaning.specs.Answers.{number_of_provisioned, count_of};
 ghost use Rattle.meaning.specs.Records.{decimal, digit_text, prefix_text, length_text, no_line, accepted_line, number_line, refs_line, listed_line, end_line, line, signed_decimal};
@@ -9,9 +9,9 @@ ghost use Rattle.blocks.specs.Endian.{bytes_of};
 ghost use Rattle.text.specs.Writes.{Writes, LONGEST, digits_or, listed_of, ListedIn, answer_in, NumberIn, head_text, Printable};
 
 use blocks::{eight, put_eight};
-use buffer::{copy, wide};
+use buffer::copy;
 use meaning::refusals::ACCEPTED;
-use meaning::{Answered, Counted, ListedRule, Provisioned};
+use meaning::{Answered, ListedRule, Refusal};
 
 // The most bytes of a line.
 pub const LONGEST_LINE: usize = 41;
@@ -68,6 +68,7 @@ fn write_counted(word: &[u8], n: usize, out: &mut [u8]) -> usize
 
 // DIGITS
 
+#[tactic(auto, unfolding(meaning::specs::Records::digit_text))]
 fn digit_text(d: u8) -> u8
     requires { d < 16 }
     ensures { result ≡ digit_text d }
@@ -97,10 +98,8 @@ fn few_to_text(digits: &[u8], out: &mut [u8])
     requires { T (all is_digit digits.now) × (length digits.now ≤ length out.old) }
     ensures { out.new ≡ written_over (map digit_text digits.now) out.old }
 {
-    let mut i = 0;
-    while i < digits.len() {
-        out[i] = digit_text(digits[i]);
-        i += 1;
+    for (i, d) in digits.iter().enumerate() {
+        out[i] = digit_text(*d);
     }
 }
 
@@ -114,10 +113,8 @@ fn digits_to_text(digits: &[u8], out: &mut [u8])
         return;
     }
     let last = digits.len() - 8;
-    let mut i: usize = 0;
-    while i < last {
+    for i in (0..last).step_by(8) {
         write_eight(&digits[i..], &mut out[i..]);
-        i += 8;
     }
     write_eight(&digits[last..], &mut out[last..]);
 }
@@ -141,39 +138,41 @@ fn write_digits(digits: &[u8], none: u8, behind: u8, out: &mut [u8]) -> usize
 // REFUSALS AND COUNTS
 
 // A refusal.
+#[tactic(auto, unfolding(meaning::specs::Records::no_line))]
 pub fn no_line(refusal: u8, out: &mut [u8]) -> usize
     requires { LONGEST ≤ length out.old }
     ensures { Writes (no_line refusal) out.old out.new result }
 {
-    write_counted(b"no ", wide(refusal), out)
+    write_counted(b"no ", usize::from(refusal), out)
 }
 
 // What opening and provisioning answer.
-pub fn accepted_line(answer: Provisioned, out: &mut [u8]) -> usize
+pub fn accepted_line(answer: Result<(), Refusal>, out: &mut [u8]) -> usize
     requires { LONGEST ≤ length out.old }
     ensures { Writes (accepted_line (number_of_provisioned answer)) out.old out.new result }
 {
     match answer {
-        Provisioned::Accepted => {
+        Ok(()) => {
             copy(out, b"ok\n");
             3
         }
-        Provisioned::Refused(r) => no_line(r.number(), out),
+        Err(refusal) => no_line(u8::from(refusal), out),
     }
 }
 
 // How many rules name a set.
-pub fn refs_line(answer: Counted, out: &mut [u8]) -> usize
+pub fn refs_line(answer: Result<usize, Refusal>, out: &mut [u8]) -> usize
     requires { ((count_of answer).number < 65536) × (LONGEST ≤ length out.old) }
     ensures { Writes (refs_line (count_of answer)) out.old out.new result }
 {
     match answer {
-        Counted::Rules(n) => write_counted(b"refs ", n, out),
-        Counted::Refused(r) => no_line(r.number(), out),
+        Ok(n) => write_counted(b"refs ", n, out),
+        Err(refusal) => no_line(u8::from(refusal), out),
     }
 }
 
 // How many rules a listing has.
+#[tactic(auto, unfolding(meaning::specs::Records::end_line))]
 pub fn end_line(count: usize, out: &mut [u8]) -> usize
     requires { (count < 65536) × (LONGEST ≤ length out.old) }
     ensures { Writes (end_line count) out.old out.new result }
@@ -201,7 +200,7 @@ fn write_length(len: u8, out: &mut [u8]) -> usize
         out[1] = SPACE;
         return 2;
     }
-    write_number(wide(len), SPACE, out)
+    write_number(usize::from(len), SPACE, out)
 }
 
 // The first half of a listed rule.
@@ -209,7 +208,7 @@ fn write_class_and_prefix(class: u8, prefix: &[u8], out: &mut [u8]) -> usize
     requires { T (all is_digit prefix.now) × (length prefix.now + 8 ≤ length out.old) }
     ensures { Writes ((decimal class ++ 32 ∷ []) ++ (prefix_text prefix.now ++ 32 ∷ [])) out.old out.new result }
 {
-    let at = write_number(wide(class), SPACE, out);
+    let at = write_number(usize::from(class), SPACE, out);
     at + write_prefix(prefix, &mut out[at..])
 }
 
@@ -227,16 +226,16 @@ pub fn listed_line(rule: ListedRule, out: &mut [u8]) -> usize
     requires { ListedIn rule × (LONGEST ≤ length out.old) }
     ensures { Writes (listed_line (listed_of rule)) out.old out.new result }
 {
-    let digits = wide(rule.digits);
-    let set = rule.set.0 as usize;
-    let prefix = rule.prefix;
-    let at = write_class_and_prefix(rule.class, &prefix[0..digits], out);
+    let digits = usize::from(rule.digits);
+    let set = usize::from(rule.set.0);
+    let at = write_class_and_prefix(rule.class, &rule.prefix[..digits], out);
     at + write_length_and_set(rule.length, set, &mut out[at..])
 }
 
 // NUMBER LINES
 
 // Four numbers of one digit, each with the space behind it.
+#[tactic(auto, unfolding(crate::specs::Writes::head_text))]
 fn write_head(outcome: u8, class: u8, response: u8, count: u8, out: &mut [u8])
     requires { (outcome < 10) × (class < 10) × (response < 10) × (count < 10) × (8 ≤ length out.old) }
     ensures { Writes (head_text outcome class response count) out.old out.new 8 }
@@ -271,20 +270,12 @@ pub fn number_line(answer: Answered, digits: &[u8], out: &mut [u8]) -> usize
 
 // LOSSES
 
-// How far a number is from zero.
-fn size(n: i64) -> usize
-    requires { Printable n }
-    ensures { result ≡ nat_abs n }
-{
-    if n < 0 { (0 - n) as usize } else { n as usize }
-}
-
 // A number with its sign, which only one below zero has, and the byte behind it.
 fn write_signed(x: i64, behind: u8, out: &mut [u8]) -> usize
     requires { Printable x × (16 ≤ length out.old) }
     ensures { Writes (signed_decimal x ++ behind ∷ []) out.old out.new result }
 {
-    let n = size(x);
+    let n = x.unsigned_abs() as usize;
     if x < 0 {
         copy(out, b"-");
         return 1 + write_number(n, behind, &mut out[1..]);

@@ -1,12 +1,11 @@
--- What is left of the bytes decides: the loop ends behind them, at one byte alone, at code 0 or at the first action out of range.
-use Prim.Native.Nat.{◌-◌, ◌≤◌}
+-- What is left of the bytes decides.
 use mathlib.Core.Path.{◌≡◌}
-use lib.ListN.{length, drop}
+use lib.ListN.{length}
 use Rattle.meaning.specs.Actions.{cas_in_range}
 use Rattle.actions.proofs.cas_in_range.Given as goal
 
-abbrev pub invariant-loop-i : goal.invariant-loop-i
-invariant-loop-i l = (l.i ≤ length l.cas) × (cas_in_range (drop l.i l.cas) ≡ cas_in_range l.cas)
+abbrev pub invariant-loop-left : goal.invariant-loop-left
+invariant-loop-left l = cas_in_range l.left ≡ cas_in_range l.cas
 
-abbrev pub decreases-loop-i : goal.decreases-loop-i
-decreases-loop-i l = length l.cas - l.i
+abbrev pub decreases-loop-left : goal.decreases-loop-left
+decreases-loop-left l = length l.left

@@ -1,27 +1,19 @@
--- What is left of the list decides: the count so far and that of what is left.
+-- As many as the list's X actions. They are no more than its bytes.
 use native.Mathlib.Omega.{arith}
-use mathlib.Core.Path.{sym, ap, ◌∙◌}
-use Rattle.meaning.specs.Basics.{count}
-use Rattle.meaning.specs.Actions.{is_x}
+use mathlib.Core.Path.{ap, ◌∙◌}
+use mathlib.Core.Logic.{inl}
+use lib.ListN.{length}
+use Rattle.std.proofs.Common.{rules, tests}
+use Rattle.std.proofs.lemmas.Iterator.Consumers.{count_from_yields_List, YieldsList-from_filter, YieldsList-at}
+use Rattle.meaning.specs.Actions.{is_x, cas_of}
+use Rattle.actions.specs.Reading.{actions_left}
+use Rattle.actions.proofs.Walks.{gives_actions, count_is, few_actions}
 use Rattle.actions.proofs.count_x.Goals as goal
-use Rattle.actions.proofs.count_x.Goals.{then-is_x, else-is_x}
 
-pub returns-then-a-eq0 : goal.returns-then-a-eq0
-returns-then-a-eq0 c = omega (arith, ap (count is_x) (c.action_at-a.ensures.ends c.if-a-eq0.true), c.loop-a.invariant.2)
+pub count-requires-clause-fits : goal.count-requires-clause-fits
+count-requires-clause-fits c =
+    inl (omega (arith, ap (λ s. length (actions_left s)) c.filter.ensures.source, ap length c.actions_in.ensures, few_actions c.args.cas.now))
 
-pub overflow_add-n : goal.overflow_add-n
-overflow_add-n c = omega (arith, c.action_at-a.ensures.inside c.if-a-eq0.false)
-
-pub overflow_add-i : goal.overflow_add-i
-overflow_add-i c = omega (arith, c.action_at-a.ensures.inside c.if-a-eq0.false)
-
-pub loop-a-smaller : goal.loop-a-smaller
-loop-a-smaller c = omega (arith, c.action_at-a.ensures.inside c.if-a-eq0.false)
-
-pub loop-a-preserved : goal.loop-a-preserved
-loop-a-preserved c = let h = c.action_at-a.ensures.inside c.if-a-eq0.false in
-    let e = ap (count is_x) (c.action_at-a.ensures.goes c.if-a-eq0.false) in
-    elim c.if-is_x.branch [
-      | then-is_x w ↦ (h, omega arith, omega (arith, rw (sym c.is_x.ensures ∙ w.if-is_x.true) at e, c.loop-a.invariant.2, w.n-is))
-      | else-is_x w ↦ (h, omega arith, omega (arith, rw (sym c.is_x.ensures ∙ w.if-is_x.false) at e, c.loop-a.invariant.2, w.n-is))
-    ]
+pub returns : goal.returns
+returns c = let cas = cas_of c.args.cas.now in
+    count_from_yields_List c.filter.result _ c.count.ensures.ran (YieldsList-from_filter _ is_x (YieldsList-at c.filter.ensures.source (gives_actions cas c.actions_in.ensures)) c.filter.ensures.closure (λ x b q k. search (rules, tests))) ∙ count_is is_x cas

@@ -1,29 +1,21 @@
--- What is left of the list decides: the sum so far and that of what is left. No action adds more than 255.
+-- The sum of what each action takes for certain, at most 255.
 use native.Mathlib.Omega.{arith}
-use mathlib.Core.Path.{ap}
-use borrow.Author.Rules.{rules}
-use Rattle.meaning.specs.Groups.{fixed_sum}
-use Rattle.actions.specs.Reading.{action_of}
-use Rattle.actions.proofs.Fit.{fixed_small}
+use mathlib.Core.Path.{◌∙◌}
+use Rattle.std.proofs.Common.{rules, tests}
+use Rattle.std.proofs.lemmas.Iterator.{YieldsList-from_map}
+use Rattle.std.proofs.lemmas.Iterator.Consumers.{sum_by_from_yields_List, fits_by_from_yields_list, YieldsList-at}
+use Rattle.meaning.specs.Actions.{cas_of}
+use Rattle.meaning.specs.Groups.{fixed_of}
+use Rattle.actions.proofs.Walks.{gives_actions, fixed_sum_is, sum_small}
 use Rattle.actions.proofs.fixed_sum.Goals as goal
 
-pub returns-then-a-eq0 : goal.returns-then-a-eq0
-returns-then-a-eq0 c = omega (arith, ap (fixed_sum c.args.prefix) (c.action_at-a.ensures.ends c.if-a-eq0.true), c.loop-a.invariant.2)
+pub sum-requires-clause-fits : goal.sum-requires-clause-fits
+sum-requires-clause-fits c = let cas = cas_of c.args.cas.now in
+    let fixed = fixed_of c.args.prefix in
+    fits_by_from_yields_list fixed cas c.map.result _ (YieldsList-from_map _ fixed (YieldsList-at c.map.ensures.source (gives_actions cas c.actions_in.ensures)) c.map.ensures.closure (λ x r q k. search (rules, tests)))
+    (omega (arith, fixed_sum_is c.args.prefix cas, sum_small c.args.prefix c.args.cas.now (omega arith) (λ i. search (rules, c.type_inv.cas i))))
 
-pub overflow_add-sum : goal.overflow_add-sum
-overflow_add-sum c = let h = c.action_at-a.ensures.inside c.if-a-eq0.false in
-    let k = fixed_small 255 c.args.prefix (action_of c.action_at-a.result) (search rules) (search rules) in
-    omega (arith, h, k, c.fixed_of-sum.ensures)
-
-pub overflow_add-i : goal.overflow_add-i
-overflow_add-i c = omega (arith, c.action_at-a.ensures.inside c.if-a-eq0.false)
-
-pub loop-a-smaller : goal.loop-a-smaller
-loop-a-smaller c = omega (arith, c.action_at-a.ensures.inside c.if-a-eq0.false)
-
-pub loop-a-preserved : goal.loop-a-preserved
-loop-a-preserved c = let args = c.args in
-    let h = c.action_at-a.ensures.inside c.if-a-eq0.false in
-    let k = fixed_small 255 args.prefix (action_of c.action_at-a.result) (search rules) (search rules) in
-    let e = ap (fixed_sum args.prefix) (c.action_at-a.ensures.goes c.if-a-eq0.false) in
-    (h, omega (arith, k, c.fixed_of-sum.ensures), omega (arith, e, c.fixed_of-sum.ensures, c.loop-a.invariant.2))
+pub returns : goal.returns
+returns c = let cas = cas_of c.args.cas.now in
+    let fixed = fixed_of c.args.prefix in
+    sum_by_from_yields_List fixed cas c.map.result _ c.sum.ensures.ran (YieldsList-from_map _ fixed (YieldsList-at c.map.ensures.source (gives_actions cas c.actions_in.ensures)) c.map.ensures.closure (λ x r q k. search (rules, tests))) ∙ fixed_sum_is c.args.prefix cas

@@ -1,11 +1,11 @@
--- None is counted exactly if there is none.
-use Prim.Native.Nat.{ℕ}
-use mathlib.Core.Path.{ap, ◌∙◌}
-use mathlib.Core.Bool.{not}
-use lib.Dec.{eqb}
+-- The closure's test is the definition's.
+use mathlib.Core.Path.{◌∙◌}
+use Rattle.std.proofs.Common.{rules, tests}
+use Rattle.std.proofs.lemmas.Iterator.Search.{any_from_yields_List}
 use Rattle.meaning.specs.Actions.{is_x, cas_of}
-use Rattle.actions.proofs.Fit.{some_counted}
+use Rattle.actions.proofs.Walks.{gives_actions, any_is}
 use Rattle.actions.proofs.has_x.Goals as goal
 
 pub returns : goal.returns
-returns c = ap (λ (n : ℕ). not (eqb n 0)) c.count_x.ensures ∙ some_counted is_x (cas_of c.args.cas.now)
+returns c = let cas = cas_of c.args.cas.now in
+    any_from_yields_List is_x c.any.new.self _ _ c.any.ensures.ran (gives_actions cas c.actions_in.ensures) (λ x b q k. search (rules, tests)) ∙ any_is is_x cas

@@ -1,31 +1,30 @@
 -- The number's own refusal, that of the charge, or the line of the answer with the digits that it holds.
+use mathlib.Core.Path.{refl, sym}
+use lib.Seq.{length-take-le}
 use native.Mathlib.Omega.{arith}
-use Rattle.number.proofs.Answering.{holds_few}
+use Rattle.meaning.proofs.Telling.{refusal_number}
+use Rattle.charging.proofs.Charging.{holds_inside}
 use Rattle.billing.proofs.ChargeLines.{answered_in, own_line, refused_charge, answered_written}
-use borrow.Author.Rules.{rules}
 use Rattle.billing.proofs.answered_line.Goals as goal
 
-pub returns-then-a-ne-ACCEPTED : goal.returns-then-a-ne-ACCEPTED
-returns-then-a-ne-ACCEPTED c = rw c.refused_line.ensures.1 (own_line c.requires.0 c.answer_held-a.ensures _ _ _ _ c.requires.1 c.if-a-ne-ACCEPTED.true c.refused_line.ensures.0)
+pub answer_held-answer-requires : goal.answer_held-answer-requires
+answer_held-answer-requires c = record { known = c.requires.0; room = omega arith }
 
-pub slice_bounds-charge-end : goal.slice_bounds-charge-end
-slice_bounds-charge-end c = omega (arith, holds_few c.answer_held-a.ensures)
+pub returns-then-answer-ne-ACCEPTED : goal.returns-then-answer-ne-ACCEPTED
+returns-then-answer-ne-ACCEPTED c = own_line c.args.plan.memory.now c.args.plan.sound c.requires.0 c.answer_held-answer.ensures _ _ _ _ c.requires.1 c.if-answer-ne-ACCEPTED.true c.no_line-written.ensures
 
-pub charge-c-requires : goal.charge-c-requires
-charge-c-requires c = λ e. let k = c.requires.1.charged_with e in
-    record { prices_in = k.prices_in; ledger_in = k.ledger_in; whole = k.whole; range = k.range }
+pub slice_bounds-outgoing-end : goal.slice_bounds-outgoing-end
+slice_bounds-outgoing-end c = sym (length-take-le _ _ (holds_inside c.answer_held-answer.ensures))
 
-pub refused_line-requires-then-c-ne-ACCEPTED : goal.refused_line-requires-then-c-ne-ACCEPTED
-refused_line-requires-then-c-ne-ACCEPTED c = c.requires.2
+pub charge-requires : goal.charge-requires
+charge-requires c = λ e. c.requires.1.charged_with e
 
-pub returns-then-c-ne-ACCEPTED : goal.returns-then-c-ne-ACCEPTED
-returns-then-c-ne-ACCEPTED c = rw c.refused_line-then-c-ne-ACCEPTED.ensures.1 (refused_charge c.requires.0 c.answer_held-a.ensures _ _ _ c.if-a-ne-ACCEPTED.false _ c.requires.1 c.charge-c.ensures c.if-c-ne-ACCEPTED.true c.refused_line-then-c-ne-ACCEPTED.ensures.0)
-
-pub slice_bounds-number_line-end : goal.slice_bounds-number_line-end
-slice_bounds-number_line-end c = omega (arith, holds_few c.answer_held-a.ensures)
+pub returns-in-Err : goal.returns-in-Err
+returns-in-Err c = rw c.refused_line.ensures.1 (refused_charge c.args.plan.memory.now c.args.plan.sound c.requires.0 c.answer_held-answer.ensures _ _ _ c.if-answer-ne-ACCEPTED.false _ c.requires.1 c.in-Err.ensures
+    (refusal_number c.in-Err.refusal) c.refused_line.ensures.0)
 
 pub number_line-written-requires : goal.number_line-written-requires
-number_line-written-requires c = (answered_in c.requires.0 c.answer_held-a.ensures, c.requires.2)
+number_line-written-requires c = (answered_in c.args.plan.memory.now c.args.plan.sound c.requires.0 c.answer_held-answer.ensures, c.requires.2)
 
-pub returns : goal.returns
-returns c = answered_written c.requires.0 c.answer_held-a.ensures _ _ _ c.if-a-ne-ACCEPTED.false _ c.requires.1 c.charge-c.ensures c.if-c-ne-ACCEPTED.false c.number_line-written.ensures
+pub returns-in-Ok : goal.returns-in-Ok
+returns-in-Ok c = answered_written c.args.plan.memory.now c.args.plan.sound c.requires.0 c.answer_held-answer.ensures _ _ _ c.if-answer-ne-ACCEPTED.false _ c.requires.1 c.in-Ok.ensures refl c.number_line-written.ensures

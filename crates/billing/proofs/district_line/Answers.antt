@@ -2,7 +2,6 @@
 use Rattle.ledger.proofs.Losses.{district_sized}
 use Rattle.billing.proofs.LossLines.{read_cents, read_printable, district_written}
 use native.Mathlib.Omega.{arith}
-use borrow.Author.Rules.{rules}
 use Rattle.billing.proofs.district_line.Goals as goal
 
 pub loss_of-loss-requires : goal.loss_of-loss-requires

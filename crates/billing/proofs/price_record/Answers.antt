@@ -1,6 +1,5 @@
 -- The row, and its number.
 use Rattle.billing.proofs.ChargeLines.{price_written}
-use borrow.Author.Rules.{rules}
 use Rattle.billing.proofs.price_record.Goals as goal
 
 pub returns : goal.returns

@@ -3,6 +3,7 @@ use Prim.Native.Nat.{ℕ, ◌-◌, ◌≤◌}
 use mathlib.Core.Path.{◌≡◌, sym, ap, ◌∙◌}
 use mathlib.Core.List.{List}
 use native.Mathlib.Omega.{arith}
+use borrow.Author.Rules.{rules}
 use lib.ListN.{length, take, drop, length-take, length-drop}
 use lib.Seq.{length-take-le}
 use Rattle.meaning.specs.Basics.{written_over}
@@ -13,7 +14,7 @@ use Rattle.blocks.proofs.copy_sixteen.Goals as goal
 pub returns : goal.returns
 returns c = let from = c.args.from.now in
     let rest = take (length from - 8) (drop 8 from) in
-    let bytes : Bytes from = λ k. omega (arith, c.shared_slice_known-1.given k) in
+    let bytes : Bytes from = λ k. search rules in
     let xs = take 8 from in
     let ys = take 8 rest in
     let long : 8 ≤ length rest = simp (length-take, length-drop) (omega (arith, c.requires.1)) in

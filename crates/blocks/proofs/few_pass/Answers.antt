@@ -1,15 +1,18 @@
--- Each answer is one law of the places, at what was found of them.
-use mathlib.Core.Path.{sym}
-use Rattle.blocks.proofs.PlaceLaws.{few_full, few_wrong, few_unused}
+-- The digits end before place n or where the places do (`few_is`).
+use Rattle.std.proofs.Common.{◌≡◌, take, true, false, sym, ◌∙◌}
+use Rattle.meaning.specs.Basics.{all, is_digit}
+use Rattle.buffer.proofs.ListLaws.{rest_is}
+use Rattle.blocks.proofs.PlaceLaws.{few_is}
 use Rattle.blocks.proofs.few_pass.Goals as goal
 
-pub returns-then-s-n : goal.returns-then-s-n
-returns-then-s-n c = let a = c.args in few_full a.n a.s.now _ c.if-s-n.true c.all_digits.ensures
+pub returns-then-all_digits : goal.returns-then-all_digits
+returns-then-all_digits c = let s = c.args.s.now in
+    let d = c.min-digits.result in
+    let passed : all is_digit (take d s) ≡ true = sym c.all_digits.ensures ∙ c.if-all_digits.true in
+    c.all_zero.ensures ∙ rw (rest_is d s) (sym (few_is c.args.n d s c.min-digits.ensures ∙ rw passed))
 
-pub returns-then-not-all_digits : goal.returns-then-not-all_digits
-returns-then-not-all_digits c = let a = c.args in
-    sym (few_wrong a.n a.s.now _ c.all_digits-2.ensures (c.if-not-all_digits.true))
-
-pub returns : goal.returns
-returns c = let a = c.args in
-    few_unused a.n a.s.now _ c.all_digits-2.ensures _ (c.if-not-all_digits.false) c.all_zero.ensures
+pub returns-else-all_digits : goal.returns-else-all_digits
+returns-else-all_digits c = let s = c.args.s.now in
+    let d = c.min-digits.result in
+    let failed : all is_digit (take d s) ≡ false = sym c.all_digits.ensures ∙ c.if-all_digits.false in
+    c.if-all_digits.false ∙ sym (few_is c.args.n d s c.min-digits.ensures ∙ rw failed)

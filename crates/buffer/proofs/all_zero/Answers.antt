@@ -1,7 +1,12 @@
--- At most 0 is 0.
-use mathlib.Core.Path.{◌∙◌}
-use Rattle.buffer.proofs.DigitLaws.{all_at_most_zero}
+-- The slice gives its bytes, and the closure computes `is_zero` of each.
+use Rattle.std.proofs.Common.{rules, ◌∙◌}
+use Rattle.std.proofs.lemmas.Iterator.{YieldsList-from_slice}
+use Rattle.std.proofs.lemmas.Iterator.Search.{all_from_yields_List}
+use borrow.Author.Tests.{tests}
+use Rattle.meaning.specs.Basics.{is_zero}
+use Rattle.buffer.proofs.Passing.{all_is}
 use Rattle.buffer.proofs.all_zero.Goals as goal
 
 pub returns : goal.returns
-returns c = c.all_at_most.ensures ∙ all_at_most_zero c.args.s.now
+returns c = let s = c.args.s.now in
+    all_from_yields_List is_zero _ _ _ c.all.ensures.ran (YieldsList-from_slice s cc) (λ x b q k. search (rules, tests)) ∙ all_is is_zero s

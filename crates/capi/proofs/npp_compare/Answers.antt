@@ -6,7 +6,7 @@ use Rattle.capi.proofs.npp_compare.Goals as goal
 
 pub returns : goal.returns
 returns c = let given = c.compare.ensures in
-    let fields = c.compared.ensures in
+    let fields = c.from.ensures in
     record {
       refusal = fields.refusal ∙ ap (λ (x : Count). x.refusal) given.result;
       differences = fields.differences ∙ ap (λ (x : Count). x.number) given.result;

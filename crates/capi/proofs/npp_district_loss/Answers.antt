@@ -5,4 +5,4 @@ use Rattle.capi.specs.Given.{loss_as}
 use Rattle.capi.proofs.npp_district_loss.Goals as goal
 
 pub returns : goal.returns
-returns c = c.loss_fields.ensures ∙ ap loss_as c.district_loss.ensures
+returns c = c.from.ensures ∙ ap loss_as c.district_loss.ensures

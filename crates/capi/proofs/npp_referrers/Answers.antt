@@ -7,7 +7,6 @@ use Rattle.capi.specs.Given.{CountedAs}
 use Rattle.capi.specs.declared.NppCounted.{NppCounted}
 use Rattle.capi.proofs.npp_referrers.Reads as reads
 use Rattle.capi.proofs.npp_referrers.Lts as lts
-use Rattle.capi.proofs.counted.Reads as counted-reads
 use Rattle.reads.proofs.referrers.Reads as referrers-reads
 use Rattle.capi.proofs.npp_referrers.Goals as goal
 

@@ -5,4 +5,4 @@ use Rattle.capi.specs.Given.{CountedAs}
 use Rattle.capi.proofs.npp_rule_count.Goals as goal
 
 pub returns : goal.returns
-returns c = subst (λ n. CountedAs n c.counted.result) c.rule_count.ensures c.counted.ensures
+returns c = subst (λ n. CountedAs n c.from.result) c.rule_count.ensures c.from.ensures

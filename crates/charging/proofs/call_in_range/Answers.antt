@@ -1,8 +1,6 @@
 -- The fields before the number, then the number.
 use mathlib.Core.Path.{sym, ◌∙◌}
-use borrow.Author.Tests.{not-true, not-false}
 use Rattle.charging.proofs.Ranges.{head_out, number_decides, number_long}
-use borrow.Author.Rules.{rules}
 use Rattle.charging.proofs.call_in_range.Goals as goal
 
 pub returns-then-not-head_in_range : goal.returns-then-not-head_in_range

@@ -1,33 +1,33 @@
 -- The number's own refusal, that of the charge, or the answer.
 use mathlib.Core.Path.{refl}
+use Rattle.meaning.proofs.Telling.{refusal_number}
 use Rattle.meaning.specs.Charges.{call_record_of}
 use Rattle.charging.proofs.Ranges.{in_range, number_long}
 use Rattle.charging.proofs.Charging.{holds_inside, holds_own, holds_refusal, holds_answer}
-use borrow.Author.Rules.{rules}
 use Rattle.charging.proofs.charge_held.Goals as goal
 
-pub answer_held-a-requires : goal.answer_held-a-requires
-answer_held-a-requires c = record {
-  known = record { sound = c.requires.0.sound; whole = number_long c.args.body.now c.requires.0.whole; range = (in_range c.args.body.now c.requires.0.range).number };
+pub answer_held-answer-requires : goal.answer_held-answer-requires
+answer_held-answer-requires c = record {
+  known = record { whole = number_long c.args.body.now c.requires.0.whole; range = (in_range c.args.body.now c.requires.0.range).number };
   room = c.requires.1;
 }
 
-pub returns-then-a-ne-ACCEPTED : goal.returns-then-a-ne-ACCEPTED
+pub returns-then-answer-ne-ACCEPTED : goal.returns-then-answer-ne-ACCEPTED
 unfolding call_record_of
-returns-then-a-ne-ACCEPTED c = holds_own c.requires.0 c.answer_held-a.ensures c.if-a-ne-ACCEPTED.true
+returns-then-answer-ne-ACCEPTED c = holds_own c.args.plan.memory.now c.args.prices.memory.now c.requires.0 c.answer_held-answer.ensures c.if-answer-ne-ACCEPTED.true
 
-pub slice_bounds-charge-end : goal.slice_bounds-charge-end
-slice_bounds-charge-end c = holds_inside c.answer_held-a.ensures
+pub slice_bounds-outgoing-end : goal.slice_bounds-outgoing-end
+slice_bounds-outgoing-end c = holds_inside c.answer_held-answer.ensures
 
-pub charge-c-requires : goal.charge-c-requires
-charge-c-requires c = λ e.
-    let k = c.requires.0 in
-    record { prices_in = k.prices_in; ledger_in = k.ledger_in; whole = k.whole; range = k.range }
+pub charge-requires : goal.charge-requires
+charge-requires c = λ e. c.requires.0
 
-pub returns-then-c-ne-ACCEPTED : goal.returns-then-c-ne-ACCEPTED
+pub returns-in-Err : goal.returns-in-Err
 unfolding call_record_of
-returns-then-c-ne-ACCEPTED c = rw c.refused.ensures (holds_refusal c.requires.0 c.answer_held-a.ensures c.if-a-ne-ACCEPTED.false (c.charge-c.ensures.charges refl) c.if-c-ne-ACCEPTED.true refl)
+returns-in-Err c = rw c.refused.ensures (holds_refusal c.args.plan.memory.now c.args.prices.memory.now c.requires.0 c.answer_held-answer.ensures c.if-answer-ne-ACCEPTED.false
+    (c.in-Err.ensures.charges refl) (refusal_number c.in-Err.refusal) refl)
 
-pub returns : goal.returns
+pub returns-in-Ok : goal.returns-in-Ok
 unfolding call_record_of
-returns c = holds_answer c.requires.0 c.answer_held-a.ensures c.if-a-ne-ACCEPTED.false (c.charge-c.ensures.charges refl) c.if-c-ne-ACCEPTED.false
+returns-in-Ok c = holds_answer c.args.plan.memory.now c.args.prices.memory.now c.requires.0 c.answer_held-answer.ensures c.if-answer-ne-ACCEPTED.false
+    (c.in-Ok.ensures.charges refl) refl

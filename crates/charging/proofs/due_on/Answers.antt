@@ -1,15 +1,14 @@
 -- The price of the digits, or none.
 use native.Mathlib.Omega.{arith}
 use Rattle.charging.proofs.Dues.{product_small, price_small, due_priced, due_none}
-use borrow.Author.Rules.{rules}
 use Rattle.charging.proofs.due_on.Goals as goal
 
 pub overflow_mul-result : goal.overflow_mul-result
-overflow_mul-result c = let small = product_small c.args.seconds _ c.requires.1 (price_small c.price_for.ensures _ c.in-PerMinute.is) in
+overflow_mul-result c = let small = product_small c.args.seconds _ c.requires (price_small c.price_for.ensures _ c.in_ok-price.was) in
     record { fits = omega (arith, small) }
 
-pub returns-in-PerMinute : goal.returns-in-PerMinute
-returns-in-PerMinute c = due_priced c.price_for.ensures c.args.seconds _ c.in-PerMinute.is c.requires.1
+pub returns-in_err-price : goal.returns-in_err-price
+returns-in_err-price c = rw c.from_residual.ensures (due_none c.price_for.ensures c.args.seconds c.in_err-price.was)
 
-pub returns-in-NoPrice : goal.returns-in-NoPrice
-returns-in-NoPrice c = due_none c.price_for.ensures c.args.seconds c.in-NoPrice.is
+pub returns : goal.returns
+returns c = due_priced c.price_for.ensures c.args.seconds _ c.in_ok-price.was c.requires

@@ -4,7 +4,6 @@ use native.Mathlib.Omega.{arith}
 use Rattle.meaning.specs.Ledger.{ledger_of, Entry, entered}
 use Rattle.charging.proofs.Ranges.{in_range}
 use Rattle.charging.proofs.Charging.{enters_full, enters, entry_is}
-use borrow.Author.Rules.{rules}
 use Rattle.charging.proofs.enter.Goals as goal
 
 pub returns-then-is_full : goal.returns-then-is_full

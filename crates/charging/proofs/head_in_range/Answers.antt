@@ -1,8 +1,6 @@
 -- Field by field.
-use mathlib.Core.Path.{◌∙◌}
 use native.Mathlib.Omega.{arith}
 use Rattle.charging.proofs.Ranges.{district_out, seconds_out, billed_decides}
-use borrow.Author.Rules.{rules}
 use Rattle.charging.proofs.head_in_range.Goals as goal
 
 pub word-requires : goal.word-requires

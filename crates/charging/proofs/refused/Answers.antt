@@ -1,6 +1,5 @@
 -- The number, and every other field 0.
 use mathlib.Core.Path.{ap}
-use borrow.Author.Rules.{rules}
 use Rattle.meaning.specs.declared.Answered.{Answered}
 use Rattle.charging.specs.Promises.{taken_as}
 use Rattle.charging.proofs.refused.Goals as goal

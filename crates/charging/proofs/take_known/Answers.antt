@@ -2,7 +2,6 @@
 use native.Mathlib.Omega.{arith}
 use lib.ListN.{length-take}
 use Rattle.number.proofs.Answering.{holds_few, gives_copied}
-use borrow.Author.Rules.{rules}
 use Rattle.charging.proofs.take_known.Goals as goal
 
 pub slice_bounds-copy-end : goal.slice_bounds-copy-end

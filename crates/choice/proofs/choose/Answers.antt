@@ -1,22 +1,10 @@
--- The rules of the plan are those of its rule area, and a sound plan has them in order.
-use mathlib.Core.Path.{ap, ◌∙◌}
-use Rattle.meaning.specs.Rules.{chosen_place}
-use Rattle.plan.proofs.ReadLaws.{numbers}
-use Rattle.plan.proofs.PlacedRules.{area_is, rules_are, order_is}
-use borrow.Author.Rules.{rules}
+-- A sound plan has its rules in order, and the place chosen is one of theirs.
+use Rattle.plan.proofs.PlacedRules.{rules_are, order_is}
+use Rattle.choice.proofs.Chosen.{place_held}
 use Rattle.choice.proofs.choose.Goals as goal
 
-pub rule_count-requires : goal.rule_count-requires
-rule_count-requires c = (numbers c.args.plan.now c.requires).header
+pub choose-requires-clause-rules_rise : goal.choose-requires-clause-rules_rise
+choose-requires-clause-rules_rise c = order_is c.args.plan.memory.now _ _ c.args.plan.sound c.rules.ensures c.rule_count.ensures.is
 
-pub choose-requires : goal.choose-requires
-choose-requires c = let m = c.args.plan.now in
-    let part = c.rules.ensures in
-    let count = c.rule_count.ensures.is in
-    record {
-      rule_area = area_is m _ _ part count;
-      rules_rise = order_is m _ _ c.requires part count;
-    }
-
-pub returns : goal.returns
-returns c = c.choose.ensures ∙ ap (chosen_place c.args.class c.args.digits.now) (rules_are c.args.plan.now _ _ c.rules.ensures c.rule_count.ensures.is)
+pub invariant_of-result : goal.invariant_of-result
+invariant_of-result c = record { held = place_held c.args.plan.memory.now c.args.class c.args.digits.now _ (rw (← rules_are c.args.plan.memory.now _ _ c.rules.ensures c.rule_count.ensures.is) c.choose.ensures) _ c.in_ok-place.was }

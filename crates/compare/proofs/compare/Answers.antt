@@ -1,21 +1,15 @@
 -- A memory that is not sound, or the comparison of two that are.
-use Rattle.meaning.proofs.Telling.{failed, passed, told}
-use Rattle.compare.proofs.Compared.{left_unsound, right_unsound, examined, both_sound}
-use borrow.Author.Rules.{rules}
+use Rattle.std.proofs.lemmas.Result.{err_from_is_err_and}
+use Rattle.compare.proofs.Compared.{left_unsound, right_unsound, both_sound}
 use Rattle.compare.proofs.compare.Goals as goal
 
-pub returns-then-not-sound : goal.returns-then-not-sound
-returns-then-not-sound c = let a = c.args in
-    left_unsound a.left.now a.right.now a.out.now (told c.sound.ensures c.if-not-sound.true)
+pub returns-in_err-left : goal.returns-in_err-left
+returns-in_err-left c = let p = err_from_is_err_and c.from_residual.result c.from_residual.ensures.1 in
+    rw (p.1, p.2) (left_unsound c.args.left.now c.args.right.now c.args.out.now _ c.in_err-left.ensures.0 c.in_err-left.ensures.1)
 
-pub returns-then-not-sound-2 : goal.returns-then-not-sound-2
-returns-then-not-sound-2 c = let a = c.args in
-    right_unsound a.left.now a.right.now a.out.now (told c.sound.ensures c.if-not-sound.false) (told c.sound-2.ensures c.if-not-sound-2.true)
-
-pub compare_known-requires : goal.compare_known-requires
-compare_known-requires c = examined c.args.left.now c.args.right.now c.args.out.now c.sound.ensures c.if-not-sound.false c.sound-2.ensures c.if-not-sound-2.false
+pub returns-in_err-right : goal.returns-in_err-right
+returns-in_err-right c = let p = err_from_is_err_and c.from_residual-in_err-right.result c.from_residual-in_err-right.ensures.1 in
+    rw (p.1, p.2) (right_unsound c.args.left.now c.args.right.now c.args.out.now c.in_ok-left.left c.in_ok-left.ensures _ c.in_err-right.ensures.0 c.in_err-right.ensures.1)
 
 pub returns : goal.returns
-returns c = let a = c.args in
-    both_sound a.left.now a.right.now a.out.now
-    (examined c.args.left.now c.args.right.now c.args.out.now c.sound.ensures c.if-not-sound.false c.sound-2.ensures c.if-not-sound-2.false) _ _ c.compare_known.ensures
+returns c = both_sound c.args.left.now c.args.right.now c.args.out.now c.in_ok-left.left c.in_ok-left.ensures c.in_ok-right.right c.in_ok-right.ensures _ _ c.compare_known.ensures

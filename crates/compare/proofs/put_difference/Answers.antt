@@ -1,21 +1,18 @@
--- Nothing, or the entry over the front of the buffer.
-use mathlib.Core.Path.{ap, ◌∙◌}
-use lib.ListN.{length}
-use Rattle.plan.specs.Layout.{plan_of}
-use Rattle.compare.specs.Steps.{rule_in}
-use Rattle.compare.proofs.Entries.{nothing_put, entry_put, entry_room, entry_by_long}
-use borrow.Author.Rules.{rules}
+-- There is room for an entry, and a rule's slot begins with its filter.
+use native.Mathlib.Omega.{arith}
+use Rattle.meaning.specs.Compare.{LEFT-ONLY, RIGHT-ONLY, IN-BOTH, NO-SET}
+use Rattle.compare.specs.Standings.{rule_of}
+use Rattle.compare.proofs.Entries.{entry_room}
 use Rattle.compare.proofs.put_difference.Goals as goal
 
-pub returns-then-kind-eq-ALIKE : goal.returns-then-kind-eq-ALIKE
-returns-then-kind-eq-ALIKE c = let a = c.args in
-    nothing_put a.kind (rule_in (plan_of a.left.now) a.i.0) (rule_in (plan_of a.right.now) a.j.0) a.out.now c.if-kind-eq-ALIKE.true
+pub put_entry-requires : goal.put_entry-requires
+put_entry-requires c = let l = c.in-LeftOnly.l in
+    (entry_room l LEFT-ONLY (rule_of l).set NO-SET c.args.out.now (rw c.in-LeftOnly.is at c.requires), omega (arith, c.slot.ensures.slot.long))
 
-pub slice_bounds-put_rules-end : goal.slice_bounds-put_rules-end
-slice_bounds-put_rules-end c = entry_room c.args.kind (rule_in (plan_of c.args.left.now) c.args.i.0) (rule_in (plan_of c.args.right.now) c.args.j.0) c.if-kind-eq-ALIKE.false c.args.out.now
-    (entry_by_long c.args.left.now c.args.right.now c.args.kind c.args.i.0 c.args.j.0 c.requires.placed) c.requires.room
+pub put_entry-requires-in-RightOnly : goal.put_entry-requires-in-RightOnly
+put_entry-requires-in-RightOnly c = let r = c.in-RightOnly.r in
+    (entry_room r RIGHT-ONLY NO-SET (rule_of r).set c.args.out.now (rw c.in-RightOnly.is at c.requires), omega (arith, c.slot-in-RightOnly.ensures.slot.long))
 
-pub returns : goal.returns
-returns c = entry_put c.args.kind (rule_in (plan_of c.args.left.now) c.args.i.0) (rule_in (plan_of c.args.right.now) c.args.j.0) c.if-kind-eq-ALIKE.false c.args.out.now
-    c.put_rules.new.out c.put_rules.ensures
-    (ap length c.put_rules.ensures ∙ entry_by_long c.args.left.now c.args.right.now c.args.kind c.args.i.0 c.args.j.0 c.requires.placed)
+pub put_entry-requires-in-InBoth : goal.put_entry-requires-in-InBoth
+put_entry-requires-in-InBoth c = let l = c.in-InBoth.l in
+    (entry_room l IN-BOTH (rule_of l).set (rule_of c.in-InBoth.r).set c.args.out.now (rw c.in-InBoth.is at c.requires), omega (arith, c.slot-in-InBoth.ensures.slot.long))

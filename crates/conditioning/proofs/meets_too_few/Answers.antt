@@ -1,7 +1,6 @@
 -- Fewer than one is none.
 use Rattle.actions.specs.Reading.{action_of}
 use Rattle.conditioning.proofs.Walk.{too_few}
-use borrow.Author.Rules.{rules}
 use Rattle.conditioning.proofs.meets_too_few.Goals as goal
 
 pub returns : goal.returns

@@ -1,7 +1,6 @@
 -- By the table of the codes.
 use Rattle.actions.specs.Reading.{action_of}
 use Rattle.conditioning.proofs.Marking.{takes_listed, takes_unlisted}
-use borrow.Author.Rules.{rules}
 use Rattle.conditioning.proofs.value_taken.Goals as goal
 
 pub returns-then-code-gt-CCDEF : goal.returns-then-code-gt-CCDEF

@@ -1,18 +1,23 @@
 -- What was read of the rule and of the slot that it names decides.
 use mathlib.Core.Path.{sym}
-use Rattle.examiner.proofs.RuleSlots.{no_set, empty_set, held_set}
 use borrow.Author.Rules.{rules}
+use borrow.Author.Tests.{tests}
+use Rattle.std.proofs.Common.{◌≤◌, ◌<◌, length}
+use Rattle.examiner.proofs.RuleSlots.{no_set, empty_set, held_set}
 use Rattle.examiner.proofs.fits_held.Goals as goal
 
-pub returns-then-room-n : goal.returns-then-room-n
-returns-then-room-n c = let a = c.args in
-    sym (no_set a.room _ a.sets.now a.slot.now c.word-n.ensures.is c.if-room-n.true)
+pub returns-in_default : goal.returns-in_default
+returns-in_default c =
+    let l : length c.args.sets.now ≤ c.word-n.result = search (rules, tests) in
+    sym (no_set _ c.args.sets.now c.args.rule.now c.word-n.ensures.is l)
 
-pub returns-then-sets-a-eq0 : goal.returns-then-sets-a-eq0
-returns-then-sets-a-eq0 c = let a = c.args in
-    sym (empty_set a.room _ a.sets.now a.slot.now c.word-n.ensures.is c.if-room-n.false c.if-sets-a-eq0.true)
+pub returns-then-set-ne0 : goal.returns-then-set-ne0
+returns-then-set-ne0 c =
+    let l : c.word-n.result < length c.args.sets.now = search (rules, tests) in
+    held_set _ c.args.sets.now c.args.rule.now c.word-n.ensures.is c.in-Some.set.now l (search (rules, tests)) _ _ _ c.if-set-ne0.true c.requires
+    c.from-prefix.ensures c.from-len.ensures c.fits_content.ensures
 
-pub returns : goal.returns
-returns c = held_set c.args.room _ c.args.sets.now c.args.slot.now c.word-n.ensures.is _ _ _
-    c.if-room-n.false c.if-sets-a-eq0.false c.requires.filter_bytes
-    c.wide-prefix.ensures.is c.wide-len.ensures.is c.fits_content.ensures
+pub returns-else-set-ne0 : goal.returns-else-set-ne0
+returns-else-set-ne0 c =
+    let l : c.word-n.result < length c.args.sets.now = search (rules, tests) in
+    rw c.if-set-ne0.false (sym (empty_set _ c.args.sets.now c.args.rule.now c.word-n.ensures.is c.in-Some.set.now l (search (rules, tests)) c.if-set-ne0.false))

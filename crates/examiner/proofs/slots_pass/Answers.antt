@@ -1,33 +1,14 @@
--- The slots before i have passed, so those from i on decide.
-use Prim.Native.Nat.{◌≤◌, ◌-◌, zero-le}
-use mathlib.Core.Path.{refl, sym}
-use native.Mathlib.Omega.{arith}
-use borrow.Author.Tests.{not-true, not-false}
-use Rattle.meaning.specs.Sizes.{SET-WIDTH}
-use Rattle.buffer.specs.Slots.{slots}
-use Rattle.buffer.proofs.Passing.{Passed, slot_fail, slot_pass, slot_done}
+-- Each call of the test is the definition's.
+use mathlib.Core.Path.{◌∙◌}
+use Rattle.std.proofs.Common.{rules}
+use Rattle.std.proofs.lemmas.Iterator.{YieldsList-from_slice}
+use Rattle.std.proofs.lemmas.Iterator.Search.{all_from_yields_List}
+use borrow.Author.Tests.{tests}
+use Rattle.buffer.proofs.Passing.{all_is}
 use Rattle.examiner.specs.Examined.{slot_test}
-use borrow.Author.Rules.{rules}
 use Rattle.examiner.proofs.slots_pass.Goals as goal
 
-pub loop-i-init : goal.loop-i-init
-loop-i-init c = (zero-le, refl)
-
-pub returns-then-not-slot_passes : goal.returns-then-not-slot_passes
-returns-then-not-slot_passes c = let a = c.args in
-    let l = c.loop-i in
-    sym (slot_fail slot_test SET-WIDTH a.room l.i a.sets.now _ c.slot_passes.ensures c.loop-i-test.true
-    l.invariant.1 (c.if-not-slot_passes.true))
-
-pub loop-i-preserved : goal.loop-i-preserved
-loop-i-preserved c = let a = c.args in
-    let l = c.loop-i in (
-      omega arith,
-      slot_pass slot_test SET-WIDTH a.room l.i a.sets.now _ c.slot_passes.ensures c.loop-i-test.true
-          l.invariant.1 (c.if-not-slot_passes.false),
-    )
-
 pub returns : goal.returns
-returns c = let a = c.args in
-    let l = c.loop-i in
-    sym (slot_done slot_test SET-WIDTH a.room l.i a.sets.now c.loop-i-test.false l.invariant.1)
+returns c =
+    let slots = c.args.sets.now in
+    all_from_yields_List slot_test _ _ _ c.all.ensures.ran (YieldsList-from_slice slots cc) (λ x b q k. search (rules, tests)) ∙ all_is slot_test slots

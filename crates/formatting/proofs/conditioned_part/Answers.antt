@@ -1,12 +1,9 @@
 -- By the tests; enough digits are not short.
 use mathlib.Core.Path.{sym, ◌∙◌}
-use mathlib.Core.Logic.{⊎_elim}
-use borrow.Author.Tests.{eqb-true, eqb-false}
 use Rattle.meaning.specs.Settings.{settings_of}
 use Rattle.meaning.specs.Actions.{cas_of}
 use Rattle.formatting.proofs.Values.{value_default, value_taken, value_not_default}
 use Rattle.formatting.proofs.Conditioned.{stretch_enough}
-use borrow.Author.Rules.{rules}
 use Rattle.formatting.proofs.conditioned_part.Goals as goal
 use Rattle.formatting.proofs.conditioned_part.Goals.{else-has_code-via-then-has_code+else-v-eq-CC, else-has_code-via-else-has_code}
 

@@ -1,7 +1,6 @@
 -- The values of the source that was made.
 use mathlib.Core.Path.{sym}
 use Rattle.formatting.proofs.Sources.{table_made, joined_made}
-use borrow.Author.Rules.{rules}
 use Rattle.formatting.proofs.join_outgoing.Goals as goal
 
 pub slice_bounds-join_values-end : goal.slice_bounds-join_values-end

@@ -4,7 +4,6 @@ use native.Mathlib.Omega.{arith}
 use lib.ListN.{length, take, drop}
 use Rattle.blocks.proofs.OverLaws.{written_behind}
 use Rattle.formatting.proofs.Places.{one_block, first_long, second_long, two_blocks}
-use borrow.Author.Rules.{rules}
 use Rattle.formatting.proofs.put_value.Goals as goal
 
 pub returns-then-value-gt16 : goal.returns-then-value-gt16

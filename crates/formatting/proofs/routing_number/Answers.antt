@@ -5,7 +5,6 @@ use Rattle.meaning.specs.Sizes.{SETTINGS-BYTES, LOOKUP-AT, LOOKUP-BYTES, VALUE-B
 use Rattle.formatting.specs.Sources.{settings_in, lookup_in, digits_if}
 use Rattle.formatting.proofs.Values.{rn_entity, rn_default, rn_none}
 use Rattle.formatting.proofs.Places.{part_within, kind_in, lies_as, nothing_lies}
-use borrow.Author.Rules.{rules}
 use Rattle.formatting.proofs.routing_number.Goals as goal
 
 pub returns-then-kind-eq2 : goal.returns-then-kind-eq2

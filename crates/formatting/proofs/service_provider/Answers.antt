@@ -5,7 +5,6 @@ use Rattle.meaning.specs.Sizes.{LOOKUP-AT, LOOKUP-BYTES}
 use Rattle.formatting.specs.Sources.{lookup_in, digits_if}
 use Rattle.formatting.proofs.Values.{sp_entity, sp_none}
 use Rattle.formatting.proofs.Places.{part_within, kind_in, lies_as, nothing_lies}
-use borrow.Author.Rules.{rules}
 use Rattle.formatting.proofs.service_provider.Goals as goal
 
 pub returns-then-source-eq3 : goal.returns-then-source-eq3

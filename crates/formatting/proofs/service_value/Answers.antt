@@ -11,7 +11,6 @@ use Rattle.services.specs.Stages.{stage_of}
 use Rattle.formatting.specs.Sources.{digits_if}
 use Rattle.formatting.proofs.Tables.{no_value}
 use Rattle.formatting.proofs.Places.{part_within, lies_as, nothing_lies}
-use borrow.Author.Rules.{rules}
 use Rattle.formatting.proofs.service_value.Goals as goal
 
 pub returns-in-11 : goal.returns-in-11
@@ -25,12 +24,12 @@ returns-in-12 c = rw c.in-12.is c.service_provider.ensures
 pub returns-in-13 : goal.returns-in-13
 unfolding value_to_send stage_of lookup_of
 returns-in-13 c = let a = c.args in
-    rw c.in-13.is (lies_as (ap (digits_if a.served.asd) (sym (part_within 17 11 LOOKUP-AT LOOKUP-BYTES a.source.now (omega arith)))) c.string_if.ensures)
+    rw c.in-13.is (lies_as (ap (digits_if a.served.effect.asd) (sym (part_within 17 11 LOOKUP-AT LOOKUP-BYTES a.source.now (omega arith)))) c.string_if.ensures)
 
 pub returns-in-14 : goal.returns-in-14
 unfolding value_to_send stage_of lookup_of
 returns-in-14 c = let a = c.args in
-    rw c.in-14.is (lies_as (ap (digits_if a.served.grn) (sym (part_within 28 11 LOOKUP-AT LOOKUP-BYTES a.source.now (omega arith)))) c.string_if-in-14.ensures)
+    rw c.in-14.is (lies_as (ap (digits_if a.served.effect.grn) (sym (part_within 28 11 LOOKUP-AT LOOKUP-BYTES a.source.now (omega arith)))) c.string_if-in-14.ensures)
 
 pub returns-in-15 : goal.returns-in-15
 unfolding value_to_send stage_of settings_of

@@ -1,26 +1,18 @@
--- The list is its first action and what is left behind it.
-use native.Mathlib.Omega.{arith}
-use mathlib.Core.Path.{sym, ap, ◌∙◌}
+-- The closure's test is the definition's, behind the first action.
+use mathlib.Core.Path.{ap, ◌∙◌}
 use mathlib.Core.Bool.{not}
-use borrow.Author.Rules.{rules}
+use lib.ListN.{drop}
+use Rattle.std.proofs.Common.{rules, tests}
+use Rattle.std.proofs.lemmas.Iterator.Adapters.{YieldsList-from_skip}
+use Rattle.std.proofs.lemmas.Iterator.Consumers.{YieldsList-at}
+use Rattle.std.proofs.lemmas.Iterator.Search.{any_from_yields_List}
+use Rattle.meaning.specs.Actions.{is_fpfx, cas_of}
 use Rattle.meaning.specs.Groups.{fpfx_first}
-use Rattle.buffer.proofs.ListLaws.{rest_is}
+use Rattle.actions.proofs.Walks.{gives_actions, any_is}
 use Rattle.groups.proofs.fpfx_first.Goals as goal
-
-pub returns-then-a-eq0 : goal.returns-then-a-eq0
-unfolding fpfx_first
-returns-then-a-eq0 c = sym (ap fpfx_first (c.action_at-a.ensures.ends c.if-a-eq0.true))
-
-pub slice_bounds-has_code-count : goal.slice_bounds-has_code-count
-slice_bounds-has_code-count c = omega (arith, c.action_at-a.ensures.inside c.if-a-eq0.false)
-
-pub slice_bounds-has_code-start : goal.slice_bounds-has_code-start
-slice_bounds-has_code-start c = omega (arith, c.action_at-a.ensures.inside c.if-a-eq0.false)
-
-pub slice_bounds-has_code-end : goal.slice_bounds-has_code-end
-slice_bounds-has_code-end c = omega (arith, c.action_at-a.ensures.inside c.if-a-eq0.false)
 
 pub returns : goal.returns
 unfolding fpfx_first
-returns c = let e = rw (rest_is 2 c.args.cas.now) at c.has_code.ensures in
-    ap not e ∙ sym (ap fpfx_first (c.action_at-a.ensures.goes c.if-a-eq0.false))
+returns c = let cas = cas_of c.args.cas.now in
+    let behind = YieldsList-from_skip 1 (YieldsList-at c.skip.ensures.source (gives_actions cas c.actions_in.ensures)) c.skip.ensures.count in
+    ap not (any_from_yields_List is_fpfx c.any.new.self _ _ c.any.ensures.ran behind (λ x b q k. search (rules, tests)) ∙ any_is is_fpfx (drop 1 cas))

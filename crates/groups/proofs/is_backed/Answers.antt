@@ -2,7 +2,6 @@
 use Prim.Native.Nat.{◌≤◌, ◌<◌}
 use mathlib.Core.Path.{◌≡◌, sym, ◌∙◌}
 use native.Mathlib.Omega.{arith}
-use borrow.Author.Rules.{rules}
 use Rattle.meaning.specs.Basics.{contains}
 use Rattle.meaning.specs.Actions.{SP, GRN, CDPNNP, ASDLKUP, GRNLKUP, actions_of}
 use Rattle.meaning.specs.Groups.{is_set}

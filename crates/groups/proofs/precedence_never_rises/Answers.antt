@@ -1,23 +1,17 @@
--- The list is its first action and what is left behind it.
-use native.Mathlib.Omega.{arith}
-use mathlib.Core.Path.{sym, ap, ◌∙◌}
-use borrow.Author.Rules.{rules}
-use Rattle.meaning.specs.Groups.{precedence_never_rises}
-use Rattle.buffer.proofs.ListLaws.{rest_is}
+-- The closure says of two precedences that the second is no more than the first.
+use mathlib.Core.Path.{◌∙◌}
+use mathlib.Core.List.{map}
+use Rattle.std.proofs.Common.{rules, tests}
+use Rattle.std.proofs.lemmas.Iterator.{YieldsList-from_map}
+use Rattle.std.proofs.lemmas.Iterator.Consumers.{YieldsList-at}
+use Rattle.meaning.specs.Actions.{codes_of}
+use Rattle.meaning.specs.Groups.{precedence}
+use Rattle.actions.proofs.Walks.{gives_codes}
+use Rattle.groups.proofs.Falling.{sorted_is, all_fall_is}
 use Rattle.groups.proofs.precedence_never_rises.Goals as goal
 
-pub returns-then-c-eq0 : goal.returns-then-c-eq0
-returns-then-c-eq0 c = sym (ap precedence_never_rises (c.code_at-c.ensures.ends c.if-c-eq0.true))
-
-pub slice_bounds-never_rises_from-count : goal.slice_bounds-never_rises_from-count
-slice_bounds-never_rises_from-count c = omega (arith, c.code_at-c.ensures.inside c.if-c-eq0.false)
-
-pub slice_bounds-never_rises_from-start : goal.slice_bounds-never_rises_from-start
-slice_bounds-never_rises_from-start c = omega (arith, c.code_at-c.ensures.inside c.if-c-eq0.false)
-
-pub slice_bounds-never_rises_from-end : goal.slice_bounds-never_rises_from-end
-slice_bounds-never_rises_from-end c = omega (arith, c.code_at-c.ensures.inside c.if-c-eq0.false)
-
 pub returns : goal.returns
-returns c = let e = rw (c.precedence.ensures, rest_is 1 c.args.sas.now) at c.never_rises_from.ensures in
-    e ∙ sym (ap precedence_never_rises (c.code_at-c.ensures.goes c.if-c-eq0.false))
+returns c = let sas = codes_of c.args.sas.now in
+    sorted_is _ (λ x y b q k. search (rules, tests)) (map precedence sas) c.is_sorted_by.ensures.ran
+    (YieldsList-from_map _ precedence (YieldsList-at c.map.ensures.source (gives_codes sas c.codes_in.ensures)) c.map.ensures.closure (λ x r q k. search (rules, tests)))
+    ∙ all_fall_is sas

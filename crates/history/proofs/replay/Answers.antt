@@ -1,6 +1,6 @@
 -- The calls that are left decide (`Going`); each turn carries out the next.
 use Prim.Native.Nat.{◌-◌}
-use mathlib.Core.Path.{sym, ◌∙◌}
+use mathlib.Core.Path.{◌≡◌, sym, ◌∙◌}
 use native.Mathlib.Omega.{arith}
 use lib.ListN.{length}
 use borrow.Author.Rules.{rules}
@@ -24,7 +24,9 @@ slice_bounds-carry_out-end c = let whole = going_whole c.loop-done.invariant (sy
 
 pub loop-done-preserved : goal.loop-done-preserved
 loop-done-preserved c = let whole = sym c.is_whole.ensures ∙ c.if-not-is_whole.false in
-    going_more c.loop-done.invariant _ _ _ _ (omega arith) whole c.body_length.ensures.is (c.carry_out.ensures.call (going_whole c.loop-done.invariant whole).kind) c.number.ensures
+    going_more c.loop-done.invariant _ _ _ _ (omega arith) whole c.body_length.ensures.is (c.carry_out.ensures.call (going_whole c.loop-done.invariant whole).kind) c.answer_number.ensures
 
 pub returns : goal.returns
-returns c = going_full c.loop-done.invariant (omega arith)
+returns c = let g = c.loop-done.invariant in
+    let all : c.loop-done.done ≡ length c.loop-done.numbers = omega (arith, g.room, g.long) in
+    rw (← all) (going_full g (omega (arith, g.long)))

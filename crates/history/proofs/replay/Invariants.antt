@@ -10,6 +10,3 @@ use Rattle.history.proofs.replay.Given as goal
 
 abbrev pub invariant-loop-done : goal.invariant-loop-done
 invariant-loop-done l = Going l.initial.plan l.calls l.initial.numbers l.done l.at l.plan l.numbers
-
-abbrev pub decreases-loop-done : goal.decreases-loop-done
-decreases-loop-done l = length l.initial.numbers - l.done

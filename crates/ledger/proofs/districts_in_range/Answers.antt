@@ -1,25 +1,15 @@
+-- One district after the other, as `all` takes them.
+use mathlib.Core.Path.{refl, ◌∙◌}
 use borrow.Author.Rules.{rules}
-use mir.Syntax.{w64}
-use mir.ValLaws.{to_z-of_z}
-use Rattle.meaning.proofs.Telling.{told}
-use Rattle.ledger.proofs.Ranges.{district_stops, district_goes, districts_end}
+use borrow.Author.Tests.{tests}
+use Rattle.std.proofs.lemmas.Iterator.{YieldsList-from_range}
+use Rattle.std.proofs.lemmas.Iterator.Search.{all_from_yields_List}
+use Rattle.meaning.specs.Sizes.{DISTRICTS}
+use Rattle.meaning.specs.Ledger.{totals_at, totals_in_range}
+use Rattle.ledger.proofs.Ranges.{districts_listed}
 use Rattle.ledger.proofs.districts_in_range.Goals as goal
 
-pub totals_in_range-requires : goal.totals_in_range-requires
-totals_in_range-requires c = rw (to_z-of_z w64 c.args.most c.ranges.most) c.requires
-
-pub returns-then-not-totals_in_range : goal.returns-then-not-totals_in_range
-returns-then-not-totals_in_range c = let l = c.loop-d in
-    let m = to_z-of_z w64 c.args.most c.ranges.most in
-    let t = rw (m, c.totals_at.ensures) at c.totals_in_range.ensures in
-    district_stops c.args.most c.args.districts.now l.d (rw m at l.invariant.1) c.loop-d-test.true (told t c.if-not-totals_in_range.true)
-
-pub loop-d-preserved : goal.loop-d-preserved
-loop-d-preserved c = let l = c.loop-d in
-    let m = to_z-of_z w64 c.args.most c.ranges.most in
-    let t = rw (m, c.totals_at.ensures) at c.totals_in_range.ensures in
-    (search rules, rw m (district_goes c.args.most c.args.districts.now l.d (rw m at l.invariant.1) c.loop-d-test.true (told t c.if-not-totals_in_range.false)))
-
 pub returns : goal.returns
-returns c = let l = c.loop-d in
-    districts_end c.args.most c.args.districts.now l.d (rw (to_z-of_z w64 c.args.most c.ranges.most) at l.invariant.1) c.loop-d-test.false
+returns c = all_from_yields_List (λ d. totals_in_range c.args.most (totals_at c.args.districts.now d)) _ _ c.all.result c.all.ensures.ran (YieldsList-from_range 0 DISTRICTS DISTRICTS refl refl)
+    (λ d b q k. search (rules, tests))
+    ∙ districts_listed c.args.most c.args.districts.now 0 DISTRICTS

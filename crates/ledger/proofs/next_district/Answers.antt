@@ -1,18 +1,18 @@
-use mathlib.Core.Path.{sym, ◌∙◌}
-use native.Mathlib.Omega.{arith}
-use Rattle.meaning.proofs.Telling.{told}
-use Rattle.ledger.proofs.Losses.{next_here, next_goes, next_end}
+-- The first district that `find` gives.
+use mathlib.Core.Path.{refl}
+use Prim.Native.Nat.{◌-◌}
+use borrow.Author.Rules.{rules}
+use borrow.Author.Tests.{tests}
+use Rattle.std.proofs.lemmas.Iterator.{YieldsList-from_range}
+use Rattle.std.proofs.lemmas.Iterator.Search.{find_from_yields_List}
+use Rattle.meaning.specs.Sizes.{DISTRICTS}
+use Rattle.meaning.specs.Ledger.{totals_at, has_records}
+use Rattle.ledger.proofs.Losses.{next_found}
 use Rattle.ledger.proofs.next_district.Goals as goal
 
-pub returns-then-has_records : goal.returns-then-has_records
-returns-then-has_records c = let l = c.loop-d in
-    let t = rw c.totals_at.ensures at c.has_records.ensures in
-    next_here c.args.districts.now l.d c.loop-d-test.true (told t c.if-has_records.true) ∙ sym l.invariant.1
-
-pub loop-d-preserved : goal.loop-d-preserved
-loop-d-preserved c = let l = c.loop-d in
-    let t = rw c.totals_at.ensures at c.has_records.ensures in
-    (omega arith, l.invariant.1 ∙ next_goes c.args.districts.now l.d c.loop-d-test.true (told t c.if-has_records.false))
-
 pub returns : goal.returns
-returns c = next_end c.args.districts.now c.loop-d.d c.loop-d-test.false ∙ sym c.loop-d.invariant.1
+returns c = let from = c.args.from in
+    next_found c.args.districts.now from DISTRICTS c.requires c.find.result c.unwrap_or.result
+    (find_from_yields_List (λ d. has_records (totals_at c.args.districts.now d)) _ _ c.find.result c.find.ensures.ran (YieldsList-from_range from DISTRICTS (DISTRICTS - from) refl refl)
+    (λ d b q k. search (rules, tests)))
+    c.unwrap_or.ensures

@@ -1,15 +1,11 @@
--- A plan that is not sound, or the count of one that is.
-use mathlib.Core.Path.{sym, ◌∙◌}
-use borrow.Author.Tests.{not-true, not-false}
+-- A memory that holds no plan, or the count of one that is sound.
+use Rattle.std.proofs.lemmas.Result.{err_from_is_err_and}
 use Rattle.listing.proofs.Listed.{count_plan, count_given}
-use borrow.Author.Rules.{rules}
 use Rattle.listing.proofs.rule_count.Goals as goal
 
-pub returns-then-not-sound : goal.returns-then-not-sound
-returns-then-not-sound c = count_plan c.args.plan.now (sym c.sound.ensures ∙ c.if-not-sound.true)
-
-pub count_known-requires : goal.count_known-requires
-count_known-requires c = sym c.sound.ensures ∙ c.if-not-sound.false
+pub returns-in_err-plan : goal.returns-in_err-plan
+returns-in_err-plan c = let p = err_from_is_err_and c.from_residual.result c.from_residual.ensures.1 in
+    rw (p.1, p.2) (count_plan c.args.plan.now _ c.in_err-plan.ensures.0 c.in_err-plan.ensures.1)
 
 pub returns : goal.returns
-returns c = count_given c.args.plan.now _ (sym c.sound.ensures ∙ c.if-not-sound.false) c.count_known.ensures
+returns c = count_given c.args.plan.now c.in_ok-plan.plan _ c.in_ok-plan.ensures c.count_known.ensures

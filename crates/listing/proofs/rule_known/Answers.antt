@@ -1,15 +1,13 @@
 -- A place behind the last, or the rule that is there.
-use mathlib.Core.Path.{ap, sym, ◌∙◌}
-use native.Mathlib.Omega.{arith}
-use Rattle.meaning.specs.Answers.{rule_listed}
-use Rattle.plan.specs.Layout.{plan_of}
-use Rattle.listing.proofs.Listed.{length_listing, place_over}
-use borrow.Author.Rules.{rules}
+use mathlib.Core.Path.{ap, ◌∙◌}
+use Rattle.std.specs.Result.{result_ok}
+use Rattle.std.proofs.lemmas.Result.{err_from_is_err_and}
+use Rattle.listing.proofs.Listed.{none_there, one_there}
 use Rattle.listing.proofs.rule_known.Goals as goal
 
-pub returns-then-count_known-place : goal.returns-then-count_known-place
-returns-then-count_known-place c = c.refused.ensures
-    ∙ ap rule_listed (sym (place_over (plan_of c.args.plan.now) c.args.place.0 (omega (arith, c.count_known.ensures, c.if-count_known-place.true))))
+pub returns-in_err-rule : goal.returns-in_err-rule
+returns-in_err-rule c = let p = err_from_is_err_and c.from_residual.result c.from_residual.ensures.1 in
+    rw (p.1, p.2) (none_there c.args.plan.memory.now c.args.place _ c.rule.ensures _ c.ok_or.ensures.value _ c.in_err-rule.was)
 
-pub held_at-requires : goal.held_at-requires
-held_at-requires c = (c.requires, omega (arith, length_listing c.args.plan.now, c.count_known.ensures, c.if-count_known-place.false))
+pub returns : goal.returns
+returns c = one_there c.args.plan.memory.now c.args.place _ c.rule.ensures _ (c.ok_or.ensures.ok_part ∙ ap result_ok c.in_ok-rule.was) _ c.held_at.ensures

@@ -1,47 +1,43 @@
 -- The places left hold every rule that may still weigh more than the best so far; places are left, or digits.
-use Prim.Native.Nat.{◌+◌, ◌-◌}
 use mathlib.Core.Path.{refl, sym, ◌∙◌}
-use mathlib.Core.Logic.{⊎_elim}
 use native.Mathlib.Omega.{arith}
-use Rattle.meaning.specs.Answers.{place_chosen}
-use Rattle.narrowing.proofs.Narrowing.{Reached, class_reached, none_left, own_better, own_worse, below_16, number_ends, digit_reached}
-use borrow.Author.Rules.{rules}
+use Rattle.narrowing.proofs.Narrowing.{class_reached, none_left, own_better, own_worse, below_16, number_ends, digit_reached}
 use Rattle.narrowing.proofs.choose_among.Goals as goal
 use Rattle.narrowing.proofs.choose_among.Goals.{then-most-w, else-most-w}
 
-pub loop-lo-init : goal.loop-lo-init
-loop-lo-init c = class_reached c.requires.rule_area c.requires.rules_rise refl c.requires.narrowed
+pub loop-left-init : goal.loop-left-init
+loop-left-init c = class_reached c.requires.rule_area c.requires.rules_rise refl c.requires.narrowed
 
-pub loop-lo-preserved-then-wide-j : goal.loop-lo-preserved-then-wide-j
-loop-lo-preserved-then-wide-j c = let l = c.loop-lo in
-    let t = c.loop-lo-test.true in
-    let e = sym c.wide.ensures.is ∙ c.if-wide-j.true in
+pub loop-left-preserved-then-from-j : goal.loop-left-preserved-then-from-j
+loop-left-preserved-then-from-j c =
+    let l = c.loop-left in
+    let t = c.loop-left-test.true in
+    let e = sym c.from.ensures ∙ c.if-from-j.true in
     elim c.if-most-w.branch [
       | then-most-w w ↦ rw (w.best-is, w.most-is) (own_better c.requires.rule_area c.requires.rules_rise l.invariant t e refl c.weigh_length-w.ensures w.if-most-w.true)
       | else-most-w w ↦ rw (w.best-is, w.most-is) (own_worse c.requires.rule_area c.requires.rules_rise l.invariant t e refl c.weigh_length-w.ensures w.if-most-w.false)
     ]
 
-pub returns-then-digits-j : goal.returns-then-digits-j
-returns-then-digits-j c = let l = c.loop-lo in
-    sym (number_ends c.requires.rule_area c.requires.rules_rise l.invariant c.loop-lo-test.true
-    (λ e. c.if-wide-j.false (c.wide.ensures.is ∙ e)) c.if-digits-j.true)
+pub returns-in_default : goal.returns-in_default
+returns-in_default c =
+    sym (number_ends c.requires.rule_area c.requires.rules_rise c.loop-left.invariant c.loop-left-test.true
+    (λ e. c.if-from-j.false (c.from.ensures ∙ e)) c.in_default.ensures.lookup.3)
 
-pub loop-lo-smaller : goal.loop-lo-smaller
-loop-lo-smaller c = let l = c.loop-lo in
-    let n = c.narrow-q.ensures in
+pub loop-left-smaller : goal.loop-left-smaller
+loop-left-smaller c =
+    let n = c.narrow-left.ensures in
     omega (
       arith,
       n.start.low,
       n.end.high,
-      below_16 c.requires.rule_area c.requires.rules_rise l.invariant c.loop-lo-test.true
-          (λ e. c.if-wide-j.false (c.wide.ensures.is ∙ e)),
+      below_16 c.requires.rule_area c.requires.rules_rise c.loop-left.invariant c.loop-left-test.true (λ e. c.if-from-j.false (c.from.ensures ∙ e)),
     )
 
-pub loop-lo-preserved : goal.loop-lo-preserved
-loop-lo-preserved c = let l = c.loop-lo in
-    digit_reached c.requires.rule_area c.requires.rules_rise l.invariant c.loop-lo-test.true
-    (λ e. c.if-wide-j.false (c.wide.ensures.is ∙ e)) c.if-digits-j.false c.wide-else-wide-j.ensures.is c.narrow-q.ensures
+pub loop-left-preserved : goal.loop-left-preserved
+loop-left-preserved c =
+    let h = c.in-Some.ensures.lookup.3 in
+    digit_reached c.requires.rule_area c.requires.rules_rise c.loop-left.invariant c.loop-left-test.true
+    (λ e. c.if-from-j.false (c.from.ensures ∙ e)) h.0 (h.1 0) c.narrow-left.ensures
 
 pub returns : goal.returns
-returns c = let l = c.loop-lo in
-    sym (none_left c.requires.rule_area c.requires.rules_rise l.invariant c.loop-lo-test.false)
+returns c = sym (none_left c.requires.rule_area c.requires.rules_rise c.loop-left.invariant c.loop-left-test.false)

@@ -2,21 +2,15 @@
 use mathlib.Core.Path.{refl, sym, ◌∙◌}
 use native.Mathlib.Omega.{arith}
 use lib.ListN.{get_or}
-use Rattle.meaning.specs.Sizes.{DIALLED-DIGITS-AT}
-use Rattle.conditioning.proofs.Marking.{markable_anew}
 use Rattle.formatting.proofs.Places.{digits_long}
-use Rattle.formatting.proofs.Tables.{marks_formattable, marked_outgoing}
+use Rattle.formatting.proofs.Tables.{marked_outgoing}
 use Rattle.formatting.specs.Sources.{lookup_in, digits_in}
 use Rattle.number.proofs.Answering.{holds_unserved, holds_refused, holds_digits, given_escaped, given_short, holds_served, serviceable}
-use borrow.Author.Rules.{rules}
 use Rattle.number.proofs.answer_by.Goals as goal
 
 pub returns-then-no_conditioning : goal.returns-then-no_conditioning
 returns-then-no_conditioning c = let a = c.args in
     holds_unserved _ _ _ _ _ (given_escaped a.settings.now (lookup_in a.body.now) (get_or a.body.now 0 0) (digits_in a.n a.body.now) a.prefix a.content.now _ c.cas_of-cas.ensures _ c.outgoing_class-sent.ensures (sym c.no_conditioning.ensures ∙ c.if-no_conditioning.true)) c.unserved.ensures
-
-pub mark_spans-requires : goal.mark_spans-requires
-mark_spans-requires c = markable_anew c.args.n DIALLED-DIGITS-AT (omega arith) (omega (arith, c.requires.few))
 
 pub returns-then-mark_spans : goal.returns-then-mark_spans
 returns-then-mark_spans c = let a = c.args in
@@ -25,10 +19,6 @@ returns-then-mark_spans c = let a = c.args in
 
 pub service_stage-s-requires : goal.service_stage-s-requires
 service_stage-s-requires c = serviceable c.args.settings.now c.args.body.now c.args.n c.args.content.now c.args.out.now c.requires _ _ c.sas_of.ensures refl
-
-pub finish-requires : goal.finish-requires
-finish-requires c = let m = c.mark_spans.ensures.marked c.if-mark_spans.false in
-    (marks_formattable c.args.settings.now c.args.body.now c.requires.settings_long c.requires.body_long c.requires.few (search rules) (search rules) m, c.requires.room)
 
 pub returns : goal.returns
 returns c = let a = c.args in

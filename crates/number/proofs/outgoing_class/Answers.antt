@@ -1,13 +1,14 @@
 -- What the byte says as an outgoing class decides.
-use Rattle.number.proofs.Classes.{class_given, class_as_incoming, class_unknown}
-use borrow.Author.Rules.{rules}
+use mathlib.Core.Path.{ap, ◌∙◌}
+use Rattle.std.specs.Prelude.{Ok}
+use Rattle.number.proofs.Classes.{class_is}
 use Rattle.number.proofs.outgoing_class.Goals as goal
 
-pub returns-in-Given : goal.returns-in-Given
-returns-in-Given c = class_given c.args.set c.args.incoming _ c.outgoing.ensures _ c.in-Given.is _ c.code.ensures
+pub returns-in-Ok-Given : goal.returns-in-Ok-Given
+returns-in-Ok-Given c = c.from.ensures ∙ class_is c.args.set c.args.incoming _ _ c.try_from.ensures (c.in-Ok-Given.is ∙ ap Ok c.in-Ok-Given.field-0-is)
 
-pub returns-in-AsIncoming : goal.returns-in-AsIncoming
-returns-in-AsIncoming c = class_as_incoming c.args.set c.args.incoming _ c.outgoing.ensures c.in-AsIncoming.is
+pub returns-in-Ok-AsIncoming : goal.returns-in-Ok-AsIncoming
+returns-in-Ok-AsIncoming c = class_is c.args.set c.args.incoming _ _ c.try_from.ensures (c.in-Ok-AsIncoming.is ∙ ap Ok c.in-Ok-AsIncoming.field-0-is)
 
-pub returns-in-Unknown : goal.returns-in-Unknown
-returns-in-Unknown c = class_unknown c.args.set c.args.incoming _ c.outgoing.ensures c.in-Unknown.is
+pub returns-in-Err : goal.returns-in-Err
+returns-in-Err c = class_is c.args.set c.args.incoming _ _ c.try_from.ensures c.in-Err.is

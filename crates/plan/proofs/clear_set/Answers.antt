@@ -2,7 +2,6 @@
 use native.Mathlib.Omega.{arith}
 use Rattle.plan.proofs.ReadLaws.{numbers}
 use Rattle.plan.proofs.EditLaws.{slot_cleared}
-use borrow.Author.Rules.{rules}
 use Rattle.plan.proofs.clear_set.Goals as goal
 
 pub slice_bounds-clear-end : goal.slice_bounds-clear-end

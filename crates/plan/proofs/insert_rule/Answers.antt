@@ -3,7 +3,6 @@ use mathlib.Core.Path.{◌∙◌}
 use native.Mathlib.Omega.{arith}
 use Rattle.plan.specs.Edits.{rule_with}
 use Rattle.plan.proofs.EditLaws.{rule_inserted}
-use borrow.Author.Rules.{rules}
 use Rattle.plan.proofs.insert_rule.Goals as goal
 
 pub returns : goal.returns

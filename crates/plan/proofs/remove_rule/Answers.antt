@@ -2,7 +2,6 @@
 use mathlib.Core.Path.{◌∙◌}
 use native.Mathlib.Omega.{arith}
 use Rattle.plan.proofs.EditLaws.{rule_removed}
-use borrow.Author.Rules.{rules}
 use Rattle.plan.proofs.remove_rule.Goals as goal
 
 pub returns : goal.returns

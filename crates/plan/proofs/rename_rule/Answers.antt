@@ -1,6 +1,5 @@
 -- The rule's slot is lent, and the set number in it put anew.
 use Rattle.plan.proofs.EditLaws.{rule_changed}
-use borrow.Author.Rules.{rules}
 use Rattle.plan.proofs.rename_rule.Goals as goal
 
 pub returns : goal.returns

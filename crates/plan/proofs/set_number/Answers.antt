@@ -1,6 +1,5 @@
 -- The two bytes as a number, which fits.
 use mathlib.Core.Path.{ap}
-use borrow.Author.Rules.{rules}
 use Rattle.meaning.specs.Answers.{set_of}
 use Rattle.plan.proofs.set_number.Goals as goal
 

@@ -4,7 +4,6 @@ use native.Mathlib.Omega.{arith}
 use Rattle.meaning.specs.Sizes.{SETS-AT, SET-WIDTH, RULE-WIDTH}
 use Rattle.meaning.specs.Settings.{rooms_of, bytes_needed}
 use Rattle.plan.proofs.EditLaws.{started}
-use borrow.Author.Rules.{rules}
 use Rattle.plan.proofs.start.Goals as goal
 
 pub slice_bounds-clear-end : goal.slice_bounds-clear-end

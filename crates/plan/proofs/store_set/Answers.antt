@@ -3,7 +3,6 @@ use native.Mathlib.Omega.{arith}
 use mathlib.Core.Option.{some}
 use Rattle.plan.proofs.ReadLaws.{numbers}
 use Rattle.plan.proofs.EditLaws.{slot_stored}
-use borrow.Author.Rules.{rules}
 use Rattle.plan.proofs.store_set.Goals as goal
 
 pub slice_bounds-write_set-end : goal.slice_bounds-write_set-end

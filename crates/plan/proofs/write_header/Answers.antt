@@ -1,6 +1,5 @@
 -- The header is cleared, and the mark, the rooms and the settings are copied to their places.
 use Rattle.plan.proofs.EditLaws.{header_written}
-use borrow.Author.Rules.{rules}
 use Rattle.plan.proofs.write_header.Goals as goal
 
 pub returns : goal.returns

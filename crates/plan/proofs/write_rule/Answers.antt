@@ -1,6 +1,5 @@
 -- The slot is cleared, the filter copied over its front, and the set number put behind it.
 use mathlib.Core.Path.{◌∙◌}
-use borrow.Author.Rules.{rules}
 use Rattle.plan.proofs.EditLaws.{rule_written}
 use Rattle.plan.proofs.write_rule.Goals as goal
 

@@ -1,7 +1,6 @@
 -- The slot is cleared, its content copied, and its first byte made 1.
 use native.Mathlib.Omega.{arith}
 use lib.ListN.{length-set}
-use borrow.Author.Rules.{rules}
 use Rattle.plan.proofs.EditLaws.{set_written}
 use Rattle.plan.proofs.write_set.Goals as goal
 

@@ -1,9 +1,8 @@
 -- Cut short, over a list out of range, or as over one that is known to be in range.
 use lib.Seq.{length-take-le}
 use Rattle.meaning.specs.Sizes.{PRICE-BODY}
-use Rattle.meaning.proofs.Telling.{failed, passed, told}
+use Rattle.meaning.proofs.Telling.{told}
 use Rattle.prices.proofs.Adding.{cut_short, list_out, same_body}
-use borrow.Author.Rules.{rules}
 use Rattle.prices.proofs.add_price.Goals as goal
 
 pub returns-then-body-lt-PRICE_BODY : goal.returns-then-body-lt-PRICE_BODY

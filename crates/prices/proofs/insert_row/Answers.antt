@@ -20,7 +20,7 @@ slice_bounds-insert_slot-start c = let r = in_range_is c.args.prices.now c.requi
 
 pub insert_slot-requires : goal.insert_slot-requires
 insert_slot-requires c = let r = in_range_is c.args.prices.now c.requires.list_in_range.0 in (
-  omega (arith, c.requires.list_in_range.1, c.word-count.ensures.is, r.count),
+  omega (arith, c.requires.list_in_range.1, c.from-k.ensures, c.word-count.ensures.is, r.count),
   omega (arith, c.requires.list_in_range.2, c.word-count.ensures.is, r.count, r.size),
   slot_size c.args.slot.now c.requires.row_slot,
 )
@@ -34,4 +34,4 @@ pub returns : goal.returns
 returns c = let m = c.args.prices.now in
     c.put_word.ensures
     ∙ row_inserted m (in_range_is m c.requires.list_in_range.0) _ c.args.place.0 _ c.args.slot.now c.insert_slot.new.area c.word-count.ensures.is
-    c.requires.list_in_range.1 c.requires.list_in_range.2 c.requires.row_slot.own c.insert_slot.ensures
+    c.requires.list_in_range.1 c.requires.list_in_range.2 c.requires.row_slot.own (rw c.from-k.ensures at c.insert_slot.ensures)

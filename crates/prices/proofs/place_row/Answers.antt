@@ -4,7 +4,6 @@ use Rattle.prices.proofs.ImageLaws.{in_range_is}
 use Rattle.prices.proofs.Chosen.{lent_area}
 use Rattle.prices.proofs.RowEdits.{slot_code}
 use Rattle.prices.proofs.Adding.{row_taken, row_full, row_placed, absent_within, room_left}
-use borrow.Author.Rules.{rules}
 use Rattle.prices.proofs.place_row.Goals as goal
 
 pub word-count-requires : goal.word-count-requires
@@ -26,23 +25,23 @@ find-requires c = let m = c.args.prices.now in
       filter_bytes = slot_code c.args.slot.now c.requires.row_slot;
     }
 
+pub returns-in_default : goal.returns-in_default
+returns-in_default c = row_taken c.args.prices.now c.args.slot.now c.requires.list_in_range c.requires.row_slot _ c.word-count.ensures.is _ c.find.ensures _ c.in_default.is
+
 pub returns-then-count-eq-PRICE_ROOM : goal.returns-then-count-eq-PRICE_ROOM
-returns-then-count-eq-PRICE_ROOM c = row_full c.args.prices.now c.args.slot.now c.requires.list_in_range c.requires.row_slot _ c.word-count.ensures.is _ c.find.ensures _ c.in-Absent.is c.if-count-eq-PRICE_ROOM.true
+returns-then-count-eq-PRICE_ROOM c = row_full c.args.prices.now c.args.slot.now c.requires.list_in_range c.requires.row_slot _ c.word-count.ensures.is _ c.find.ensures _ c.in-Err.is c.if-count-eq-PRICE_ROOM.true
 
 pub insert_row-requires : goal.insert_row-requires
 insert_row-requires c = let m = c.args.prices.now in
     let s = c.args.slot.now in record {
       list_in_range = (
         c.requires.list_in_range,
-        absent_within m s c.requires.list_in_range c.requires.row_slot _ c.word-count.ensures.is _ c.find.ensures _ c.in-Absent.is,
-        room_left m s c.requires.list_in_range c.requires.row_slot _ c.word-count.ensures.is _ c.find.ensures _ c.in-Absent.is c.if-count-eq-PRICE_ROOM.false,
+        absent_within m s c.requires.list_in_range c.requires.row_slot _ c.word-count.ensures.is _ c.find.ensures _ c.in-Err.is,
+        room_left m s c.requires.list_in_range c.requires.row_slot _ c.word-count.ensures.is _ c.find.ensures _ c.in-Err.is c.if-count-eq-PRICE_ROOM.false,
       );
       row_slot = c.requires.row_slot;
     }
 
-pub returns-in-Held : goal.returns-in-Held
-returns-in-Held c = row_taken c.args.prices.now c.args.slot.now c.requires.list_in_range c.requires.row_slot _ c.word-count.ensures.is _ c.find.ensures _ c.in-Held.is
-
-pub returns-else-count-eq-PRICE_ROOM : goal.returns-else-count-eq-PRICE_ROOM
-returns-else-count-eq-PRICE_ROOM c = row_placed c.args.prices.now c.args.slot.now c.requires.list_in_range c.requires.row_slot _ c.word-count.ensures.is _ c.find.ensures _ c.in-Absent.is c.if-count-eq-PRICE_ROOM.false _
+pub returns : goal.returns
+returns c = row_placed c.args.prices.now c.args.slot.now c.requires.list_in_range c.requires.row_slot _ c.word-count.ensures.is _ c.find.ensures _ c.in-Err.is c.if-count-eq-PRICE_ROOM.false _
     c.insert_row.ensures

@@ -1,48 +1,40 @@
--- KIND, CUT, PLAN, or the call over a plan that is known to be sound, with the bytes that its kind says.
-use mathlib.Core.Path.{ap, ◌∙◌}
-use native.Mathlib.Nat.{sub-zero}
-use lib.Seq.{length-take-le}
-use borrow.Author.Rules.{rules}
-use Rattle.meaning.specs.Calls.{body_length, operation_of}
-use Rattle.meaning.proofs.Telling.{failed, passed, told}
-use Rattle.changes.proofs.PromiseLaws.{kind_cut, kind_unsound, kind_longer, carried, no_kind}
+-- KIND for a byte that is no call's; else the call of its kind.
+use mathlib.Core.Path.{refl, ap, ◌∙◌}
+use Rattle.std.specs.Prelude.{Ok}
+use Rattle.meaning.specs.Calls.{is_call}
+use Rattle.meaning.proofs.Telling.{kind_told, kind_untold, no_call}
+use Rattle.changes.proofs.PromiseLaws.{opens_kind, edits_kind, no_kind, other_kind}
 use Rattle.provision.proofs.carry_out.Goals as goal
 
-pub returns-then-not-is_call : goal.returns-then-not-is_call
-returns-then-not-is_call c = no_kind (told c.is_call.ensures c.if-not-is_call.true)
+pub returns-in-Ok-Opening : goal.returns-in-Ok-Opening
+returns-in-Ok-Opening c = opens_kind (kind_told c.try_from.ensures (c.in-Ok-Opening.is ∙ ap Ok c.in-Ok-Opening.field-0-is)) c.open.ensures
 
-pub returns-then-body-length : goal.returns-then-body-length
-returns-then-body-length c = let call = told c.is_call.ensures c.if-not-is_call.false in
-    carried call (kind_cut c.args.kind call c.args.plan.now c.args.body.now _ c.body_length-length.ensures.is c.if-body-length.true)
+pub returns-in-Ok-Edit : goal.returns-in-Ok-Edit
+returns-in-Ok-Edit c = edits_kind _ (kind_told c.try_from.ensures (c.in-Ok-Edit.is ∙ ap Ok c.in-Ok-Edit.field-0-is)) c.change.ensures
 
-pub open_known-requires : goal.open_known-requires
-unfolding body_length
-open_known-requires c = rw sub-zero (length-take-le _ c.args.body.now c.if-body-length.false ∙ (c.body_length-length.ensures.is ∙ ap body_length c.if-kind-eq-OPEN_PLAN.true))
+pub returns-in-Ok-Number : goal.returns-in-Ok-Number
+unfolding is_call
+returns-in-Ok-Number c = other_kind (kind_told c.try_from.ensures (c.in-Ok-Number.is ∙ ap Ok c.in-Ok-Number.field-0-is)) refl
 
-pub returns-then-kind-eq-OPEN_PLAN : goal.returns-then-kind-eq-OPEN_PLAN
-unfolding operation_of
-returns-then-kind-eq-OPEN_PLAN c = let call = told c.is_call.ensures c.if-not-is_call.false in
-    carried call
-    (kind_longer c.args.kind call c.args.plan.now c.args.body.now _ c.body_length-length.ensures.is c.if-body-length.false _ _
-    (rw c.if-kind-eq-OPEN_PLAN.true (rw sub-zero at c.open_known.ensures)))
+pub returns-in-Ok-Refs : goal.returns-in-Ok-Refs
+unfolding is_call
+returns-in-Ok-Refs c = other_kind (kind_told c.try_from.ensures (c.in-Ok-Refs.is ∙ ap Ok c.in-Ok-Refs.field-0-is)) refl
 
-pub returns-then-not-sound : goal.returns-then-not-sound
-returns-then-not-sound c = let call = told c.is_call.ensures c.if-not-is_call.false in
-    carried call
-    (kind_unsound c.args.kind call c.args.plan.now c.args.body.now _ c.body_length-length.ensures.is c.if-kind-eq-OPEN_PLAN.false c.if-body-length.false
-    (told c.sound.ensures c.if-not-sound.true))
+pub returns-in-Ok-List : goal.returns-in-Ok-List
+unfolding is_call
+returns-in-Ok-List c = other_kind (kind_told c.try_from.ensures (c.in-Ok-List.is ∙ ap Ok c.in-Ok-List.field-0-is)) refl
 
-pub change_known-requires : goal.change_known-requires
-change_known-requires c = let call = told c.is_call.ensures c.if-not-is_call.false in
-    record {
-      sound = told c.sound.ensures c.if-not-sound.false;
-      call = call;
-      other = c.if-kind-eq-OPEN_PLAN.false;
-      whole = rw sub-zero (length-take-le _ c.args.body.now c.if-body-length.false ∙ c.body_length-length.ensures.is);
-    }
+pub returns-in-Ok-Call : goal.returns-in-Ok-Call
+unfolding is_call
+returns-in-Ok-Call c = other_kind (kind_told c.try_from.ensures (c.in-Ok-Call.is ∙ ap Ok c.in-Ok-Call.field-0-is)) refl
 
-pub returns : goal.returns
-returns c = let call = told c.is_call.ensures c.if-not-is_call.false in
-    carried call
-    (kind_longer c.args.kind call c.args.plan.now c.args.body.now _ c.body_length-length.ensures.is c.if-body-length.false _ _
-    (rw sub-zero at c.change_known.ensures))
+pub returns-in-Ok-Price : goal.returns-in-Ok-Price
+unfolding is_call
+returns-in-Ok-Price c = other_kind (kind_told c.try_from.ensures (c.in-Ok-Price.is ∙ ap Ok c.in-Ok-Price.field-0-is)) refl
+
+pub returns-in-Ok-Losses : goal.returns-in-Ok-Losses
+unfolding is_call
+returns-in-Ok-Losses c = other_kind (kind_told c.try_from.ensures (c.in-Ok-Losses.is ∙ ap Ok c.in-Ok-Losses.field-0-is)) refl
+
+pub returns-in-Err : goal.returns-in-Err
+returns-in-Err c = no_kind (no_call c.args.kind (kind_untold c.args.kind c.try_from.ensures c.in-Err.is))

@@ -1,42 +1,14 @@
--- The bytes before i have passed, so those from i on decide.
-use Prim.Native.Nat.{◌≤◌, ◌-◌, zero-le}
-use mathlib.Core.Path.{refl, sym}
-use native.Mathlib.Omega.{arith}
-use lib.ListN.{length}
-use borrow.Author.Tests.{le-leb, lt-leb}
+-- The slice gives its bytes, and the closure computes `within 1 4` of each.
+use Rattle.std.proofs.Common.{rules, ◌∙◌}
+use Rattle.std.proofs.lemmas.Iterator.{YieldsList-from_slice}
+use Rattle.std.proofs.lemmas.Iterator.Search.{all_from_yields_List}
+use borrow.Author.Tests.{tests}
 use Rattle.meaning.specs.Basics.{within}
-use Rattle.buffer.proofs.Passing.{Passed, fail, pass, done}
-use borrow.Author.Rules.{rules}
+use Rattle.buffer.proofs.Passing.{all_is}
+use Rattle.ranges.proofs.Answers.{contains_is}
 use Rattle.ranges.proofs.answers_in_range.Goals as goal
 
-pub loop-i-init : goal.loop-i-init
-loop-i-init c = (zero-le, refl)
-
-pub bounds-answers-i : goal.bounds-answers-i
-bounds-answers-i c = search rules
-
-pub returns-then-x-lt1 : goal.returns-then-x-lt1
-returns-then-x-lt1 c = let l = c.loop-i in
-    sym (fail (within 1 4) c.args.answers.now 0 l.i _ refl c.loop-i-test.true l.invariant.1 (rw (lt-leb 1 _ c.if-x-lt1.true)))
-
-pub returns-then-x-gt4 : goal.returns-then-x-gt4
-returns-then-x-gt4 c = let l = c.loop-i in
-    sym (fail (within 1 4) c.args.answers.now 0 l.i _ refl c.loop-i-test.true l.invariant.1
-    (rw (le-leb 1 _ c.if-x-lt1.false, lt-leb _ 4 c.if-x-gt4.true)))
-
-pub overflow_add-i : goal.overflow_add-i
-overflow_add-i c = search rules
-
-pub loop-i-smaller : goal.loop-i-smaller
-loop-i-smaller c = search rules
-
-pub loop-i-preserved : goal.loop-i-preserved
-loop-i-preserved c = let l = c.loop-i in (
-  omega arith,
-  pass (within 1 4) c.args.answers.now 0 l.i _ refl c.loop-i-test.true l.invariant.1
-      (rw (le-leb 1 _ c.if-x-lt1.false, le-leb _ 4 c.if-x-gt4.false)),
-)
-
 pub returns : goal.returns
-returns c = let l = c.loop-i in
-    sym (done (within 1 4) c.args.answers.now 0 l.i c.loop-i-test.false l.invariant.1)
+returns c =
+    let s = c.args.answers.now in
+    all_from_yields_List (within 1 4) _ _ _ c.all.ensures.ran (YieldsList-from_slice s cc) (λ x b q k. search (rules, tests, contains_is)) ∙ all_is (within 1 4) s

@@ -1,17 +1,10 @@
 -- No rule, or the stretch that the rule chosen and its set give.
-use Rattle.reads.proofs.Spans.{covers_none, place_below, covers_chosen}
-use borrow.Author.Rules.{rules}
+use Rattle.reads.proofs.Spans.{covers_none, covers_chosen}
 use Rattle.reads.proofs.span_known.Goals as goal
 
-pub content_at-requires : goal.content_at-requires
-content_at-requires c = (c.requires, place_below c.args.plan.now c.args.class c.args.digits.now c.args.value c.choose.result c.choose.ensures _ c.in-At.is c.requires)
+pub returns-in-None : goal.returns-in-None
+returns-in-None c = covers_none c.args.plan.memory.now c.args.class c.args.digits.now c.args.value c.choose.result c.choose.ensures.place c.in-None.is
 
-pub prefix_at-prefix-requires : goal.prefix_at-prefix-requires
-prefix_at-prefix-requires c = (c.requires, place_below c.args.plan.now c.args.class c.args.digits.now c.args.value c.choose.result c.choose.ensures _ c.in-At.is c.requires)
-
-pub returns-in-NoRule : goal.returns-in-NoRule
-returns-in-NoRule c = covers_none c.args.plan.now c.args.class c.args.digits.now c.args.value c.choose.result c.choose.ensures c.in-NoRule.is
-
-pub returns-in-At : goal.returns-in-At
-returns-in-At c = covers_chosen c.args.plan.now c.args.class c.args.digits.now c.args.value c.choose.result c.choose.ensures _ c.in-At.is c.requires
-    _ _ _ _ c.content_at.ensures c.cas_of-cas.ensures c.prefix_at-prefix.ensures c.span_in.ensures
+pub returns-in-Some : goal.returns-in-Some
+returns-in-Some c = covers_chosen c.args.plan.memory.now c.args.class c.args.digits.now c.args.value c.choose.result c.choose.ensures.place c.choose.ensures.plan _ c.in-Some.is
+    _ _ _ _ c.content.ensures c.cas_of-cas.ensures c.prefix.ensures c.span_in.ensures

@@ -1,5 +1,4 @@
 -- A record has a byte for its kind, and its body.
-use borrow.Author.Rules.{rules}
 use Rattle.record.proofs.StepLines.{empty_not_whole, whole_test}
 use Rattle.record.proofs.is_whole.Goals as goal
 

@@ -1,8 +1,6 @@
 -- By the kind: the length, the plan, and what stands before a call record's number.
 use mathlib.Core.Path.{sym, ◌∙◌}
-use borrow.Author.Tests.{not-true, not-false}
 use Rattle.record.proofs.NumberLines.{number_cut, number_refused, number_at_lem, call_cut, call_refused, call_outside, call_at}
-use borrow.Author.Rules.{rules}
 use Rattle.record.proofs.number_place.Goals as goal
 
 pub returns-then-input-lt-NUMBER_RECORD : goal.returns-then-input-lt-NUMBER_RECORD

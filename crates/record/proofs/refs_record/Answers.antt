@@ -1,19 +1,6 @@
--- No plan, or the count over it.
-use mathlib.Core.Path.{◌∙◌}
-use borrow.Author.Rules.{rules}
-use borrow.Author.Tests.{not-true, not-false}
-use Rattle.record.proofs.ReadLines.{refs_few, refs_no_plan, refs_known}
+-- One line.
+use Rattle.record.proofs.ReadLines.{read_refs}
 use Rattle.record.proofs.refs_record.Goals as goal
 
-pub returns-then-not-opened : goal.returns-then-not-opened
-returns-then-not-opened c = refs_no_plan c.args.plan.now _ (c.requires.0 ∙ c.if-not-opened.true) c.no_line.ensures
-
-pub referrers_known-requires : goal.referrers_known-requires
-referrers_known-requires c = c.requires.0 ∙ c.if-not-opened.false
-
-pub refs_line-requires : goal.refs_line-requires
-refs_line-requires c = (refs_few c.args.plan.now c.referrers_known.result _ (c.requires.0 ∙ c.if-not-opened.false) c.referrers_known.ensures, c.requires.2)
-
 pub returns : goal.returns
-returns c = refs_known c.args.plan.now c.referrers_known.result _ _ (c.requires.0 ∙ c.if-not-opened.false) c.set_number.ensures c.referrers_known.ensures
-    c.refs_line.ensures
+returns c = read_refs c.args.plan.now c.args.run c.args.body.now c.refs_line-written.ensures c.line_of.ensures

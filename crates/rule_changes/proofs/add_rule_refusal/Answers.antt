@@ -1,5 +1,4 @@
 -- Each answer is that of the first check that refuses.
-use borrow.Author.Rules.{rules}
 use Rattle.meaning.specs.Calls.{add_rule_lines}
 use Rattle.meaning.proofs.Telling.{checks}
 use Rattle.rule_changes.proofs.Given.{in_range}

@@ -1,6 +1,5 @@
 -- The filter first, then the set.
-use borrow.Author.Rules.{rules}
-use Rattle.meaning.proofs.Telling.{failed, passed, told}
+use Rattle.meaning.proofs.Telling.{told}
 use Rattle.rule_changes.proofs.both_there.Goals as goal
 
 pub returns-then-not-holds_filter : goal.returns-then-not-holds_filter

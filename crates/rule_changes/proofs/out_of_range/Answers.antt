@@ -1,7 +1,6 @@
 -- The number first, then the filter.
 use mathlib.Core.Path.{ap}
 use mathlib.Core.Bool.{not}
-use borrow.Author.Rules.{rules}
 use Rattle.meaning.proofs.Telling.{told}
 use Rattle.rule_changes.proofs.out_of_range.Goals as goal
 

@@ -1,8 +1,6 @@
 -- Over the limits an opening is refused as in a memory of 0 bytes; within them the memory of a run has the bytes.
-use mathlib.Core.Logic.{⊎_elim}
 use native.Mathlib.Omega.{arith}
-use borrow.Author.Rules.{rules}
-use borrow.Author.Tests.{ltb-true, ltb-false}
+use borrow.Author.Tests.{ltb-false}
 use Rattle.meaning.specs.Calls.{operation_of}
 use Rattle.run.proofs.RunLaws.{over_sets, over_rules, within_both, opened_over, opened_within}
 use Rattle.run.proofs.open.Goals as goal

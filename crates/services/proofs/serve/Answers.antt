@@ -1,43 +1,36 @@
--- What is left of the list, from the stage reached, decides (`Going`).
-use Prim.Native.Nat.{◌+◌, ◌-◌, ◌≤◌, ◌<◌}
-use mathlib.Core.Path.{◌≡◌, ◌∙◌}
+-- The codes that are left, from the stage reached, decide (`Going`).
+use Prim.Native.Nat.{◌+◌, ◌<◌}
+use mathlib.Core.Path.{◌≡◌, ap, ◌∙◌}
 use native.Mathlib.Omega.{arith}
 use lib.ListN.{length, get_or, length-set}
-use Rattle.meaning.specs.Sizes.{ANSWERS-AT}
-use Rattle.services.specs.Stages.{served_with, code_listed}
-use Rattle.services.proofs.Stages.{carries}
-use Rattle.services.proofs.Going.{Going, going_none, going_more, served_as, served_all, served_responded}
 use borrow.Author.Rules.{rules}
+use Rattle.meaning.specs.Sizes.{ANSWERS-AT}
+use Rattle.actions.specs.Reading.{codes_left}
+use Rattle.actions.proofs.Walks.{some_code}
+use Rattle.services.specs.Stages.{no_effect, code_listed}
+use Rattle.services.proofs.Stages.{carries}
+use Rattle.services.proofs.Going.{going_none, going_more, served_all, served_responded}
 use Rattle.services.proofs.serve.Goals as goal
+use Rattle.services.proofs.serve.Goals.{in-None, in-Some+then-effect-gt-RELAY}
 
-pub loop-actions-init : goal.loop-actions-init
-loop-actions-init c = (search rules, c.requires.few, search rules, rw c.no_effect-e.ensures (going_none c.args.places _ _ _ (search rules)))
+pub loop-code-init : goal.loop-code-init
+loop-code-init c = let codes = ap codes_left c.into_iter-code-iterator.ensures.into_iter_gives ∙ c.codes_in-code-items.ensures in
+    let none : c.default-effect.result ≡ no_effect = search rules in
+    rw none (going_none c.args.places _ _ _ (search rules) c.requires.few codes)
 
-pub returns-then-code-eq0 : goal.returns-then-code-eq0
-returns-then-code-eq0 c = let l = c.loop-actions in
-    served_as c.served_with.ensures (served_all l.invariant.3 (omega (arith, l.invariant.0, l.invariant.1)) (c.code_at-code.ensures.ends c.if-code-eq0.true))
-
-pub returns-then-e-gt-RELAY : goal.returns-then-e-gt-RELAY
-returns-then-e-gt-RELAY c = let l = c.loop-actions in
-    served_as c.served_with-then-e-gt-RELAY.ensures (served_responded l.invariant.3 (omega (arith, l.invariant.0, l.invariant.1)) (c.code_at-code.ensures.goes c.if-code-eq0.false) c.if-e-gt-RELAY.true)
-
-pub bounds-actions-i : goal.bounds-actions-i
-bounds-actions-i c = let l = c.loop-actions in omega (arith, l.invariant.1, l.invariant.2, c.code_at-code.ensures.inside c.if-code-eq0.false)
-
-pub overflow_add-i : goal.overflow_add-i
-overflow_add-i c = omega (arith, c.code_at-code.ensures.inside c.if-code-eq0.false)
-
-pub loop-actions-smaller : goal.loop-actions-smaller
-loop-actions-smaller c = omega (arith, c.code_at-code.ensures.inside c.if-code-eq0.false)
-
-pub loop-actions-preserved : goal.loop-actions-preserved
-loop-actions-preserved c = let l = c.loop-actions in
-    let r = c.code_at-code.ensures in
-    let n = c.if-code-eq0.false in
-    let w = c.wide.ensures.is in
+pub loop-code-preserved : goal.loop-code-preserved
+loop-code-preserved c = let l = c.loop-code in
+    let goes = c.in-Some.ensures.steps in
     let f = c.is_unsuccessful-fails in
-    let answer = get_or c.args.settings.now (ANSWERS-AT + c.wide.result) 0 in
-    let some : 0 < c.code_at-code.result = omega (arith, n) in
-    let o = carries l.actions l.i l.e (omega (arith, l.invariant.1, l.invariant.2, r.inside n)) f.result answer c.code_at-code.result some in
-    let long = length-set l.actions l.i (code_listed c.code_at-code.result) ∙ l.invariant.2 in
-    (r.inside n, l.invariant.1, simp length-set l.invariant.2, rw (c.carry_out-e.ensures, c.code_listed.ensures) (going_more l.invariant.3 (r.goes n) c.if-e-gt-RELAY.false long f.ensures (search rules) (rw w) o))
+    let answer = get_or c.args.settings.now (ANSWERS-AT + c.from.result) 0 in
+    let some = some_code l.code-iterator.0.now goes in
+    let room : l.count < length l.actions = omega (arith, l.invariant.few, l.invariant.long, ap length goes) in
+    let o = carries l.actions l.count l.effect room f.result answer c.in-Some.code some in
+    let long = length-set l.actions l.count (code_listed c.in-Some.code) ∙ l.invariant.long in
+    rw (c.carry_out-effect.ensures, c.code_listed.ensures) (going_more l.invariant goes c.if-effect-gt-RELAY.false long f.ensures c.requires.kind (ap (λ k. get_or c.args.settings.now (ANSWERS-AT + k) 0) c.from.ensures) o)
+
+pub returns : goal.returns
+returns c = elim c.match-next.branch [
+  | in-None w ↦ served_all c.loop-code.invariant w.in-None.ensures.steps.0
+  | in-Some+then-effect-gt-RELAY w ↦ served_responded c.loop-code.invariant w.in-Some.ensures.steps w.if-effect-gt-RELAY.true
+]

@@ -1,5 +1,4 @@
 -- The eight places are zeros, so that those behind the last action are.
-use borrow.Author.Rules.{rules}
 use Rattle.buffer.specs.Zeros.{zeros}
 use Rattle.services.proofs.Going.{served_anew}
 use Rattle.services.proofs.service_stage.Goals as goal

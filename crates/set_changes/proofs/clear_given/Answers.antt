@@ -1,5 +1,4 @@
 -- The set is the body's.
-use borrow.Author.Rules.{rules}
 use Rattle.set_changes.proofs.ChangeLaws.{cleared}
 use Rattle.set_changes.proofs.LineLaws.{below_room}
 use Rattle.set_changes.proofs.clear_given.Goals as goal

@@ -2,7 +2,6 @@
 use mathlib.Core.List.{List}
 use Prim.Native.Nat.{ℕ}
 use mathlib.Core.Path.{ap, ◌∙◌}
-use borrow.Author.Rules.{rules}
 use Rattle.meaning.specs.Actions.{actions_of}
 use Rattle.meaning.specs.Groups.{groups_hold}
 use Rattle.set_changes.proofs.keeps_groups.Goals as goal

@@ -1,5 +1,4 @@
 -- The bytes that the rooms need, as they are read from the body.
-use borrow.Author.Rules.{rules}
 use Rattle.set_changes.proofs.LineLaws.{lacks_is}
 use Rattle.set_changes.proofs.lacks_room.Goals as goal
 

@@ -1,6 +1,5 @@
 -- The rooms first, then the settings.
-use borrow.Author.Rules.{rules}
-use Rattle.meaning.proofs.Telling.{failed, passed, told}
+use Rattle.meaning.proofs.Telling.{told}
 use Rattle.set_changes.proofs.opening_in_range.Goals as goal
 
 pub returns-then-not-rooms_in_range : goal.returns-then-not-rooms_in_range

@@ -1,7 +1,6 @@
 -- The number first, then the content.
 use mathlib.Core.Path.{ap, ◌∙◌}
 use mathlib.Core.Bool.{not}
-use borrow.Author.Rules.{rules}
 use Rattle.meaning.specs.Actions.{content_in_range}
 use Rattle.meaning.proofs.Telling.{told}
 use Rattle.set_changes.proofs.out_of_range.Goals as goal

@@ -1,5 +1,4 @@
 -- Each answer is that of the first check that refuses.
-use borrow.Author.Rules.{rules}
 use Rattle.meaning.specs.Calls.{replace_set_lines}
 use Rattle.meaning.proofs.Telling.{checks}
 use Rattle.set_changes.proofs.replace_set_refusal.Goals as goal

@@ -1,5 +1,4 @@
 -- The set and the content are the body's.
-use borrow.Author.Rules.{rules}
 use Rattle.set_changes.proofs.ChangeLaws.{stored}
 use Rattle.set_changes.proofs.LineLaws.{below_room}
 use Rattle.set_changes.proofs.store_given.Goals as goal

@@ -1,8 +1,6 @@
 -- The loss stands behind the district.
 use native.Mathlib.Omega.{arith}
-use Rattle.meaning.specs.Records.{decimal}
-use Rattle.text.proofs.Lines.{decimal_short, number_short, named, room_behind, text_behind}
-use Rattle.text.proofs.Losses.{loss_is}
+use Rattle.text.proofs.Lines.{decimal_short, number_short, room_behind}
 use borrow.Author.Rules.{rules}
 use Rattle.text.proofs.loss_line.Goals as goal
 
@@ -12,6 +10,3 @@ write_number-at-requires c = omega (arith, decimal_short c.args.district c.requi
 pub write_signed-requires : goal.write_signed-requires
 write_signed-requires c = let w = c.write_number-at.ensures in
     (search rules, room_behind w 16 (omega (arith, w.count_is, number_short c.args.district 32 c.requires.0, c.requires.2)))
-
-pub returns : goal.returns
-returns c = named (loss_is c.args.cents c.ranges.cents (decimal c.args.district)) (text_behind c.write_number-at.ensures c.write_signed.ensures)

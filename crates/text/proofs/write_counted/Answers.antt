@@ -1,10 +1,7 @@
 -- The number stands behind the word.
 use native.Mathlib.Omega.{arith}
-use Rattle.text.proofs.Lines.{decimal_short, over, text_behind}
+use Rattle.text.proofs.Lines.{decimal_short}
 use Rattle.text.proofs.write_counted.Goals as goal
 
 pub write_number-requires : goal.write_number-requires
 write_number-requires c = omega (arith, decimal_short c.args.n c.requires.0, c.requires.1)
-
-pub returns : goal.returns
-returns c = text_behind (over c.args.word.now (omega arith) c.copy.ensures) c.write_number.ensures

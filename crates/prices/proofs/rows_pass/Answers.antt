@@ -1,7 +1,0 @@
--- By the table that was made.
-use borrow.Author.Rules.{rules}
-use Rattle.blocks.proofs.MaskLaws.{masks_none}
-use Rattle.prices.proofs.rows_pass.Goals as goal
-
-pub mask_digits-requires : goal.mask_digits-requires
-mask_digits-requires c = masks_none 64

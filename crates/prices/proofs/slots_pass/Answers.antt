@@ -1,0 +1,14 @@
+-- The closure's test is the definition's.
+use mathlib.Core.Path.{◌∙◌}
+use Rattle.std.proofs.Common.{rules}
+use Rattle.std.proofs.lemmas.Iterator.{YieldsList-from_slice}
+use Rattle.std.proofs.lemmas.Iterator.Search.{all_from_yields_List}
+use borrow.Author.Tests.{tests}
+use Rattle.buffer.proofs.Passing.{all_is}
+use Rattle.prices.specs.Examined.{row_test}
+use Rattle.prices.proofs.slots_pass.Goals as goal
+
+pub returns : goal.returns
+returns c =
+    let slots = c.args.slots.now in
+    all_from_yields_List row_test _ _ _ c.all.ensures.ran (YieldsList-from_slice slots cc) (λ x b q k. search (rules, tests)) ∙ all_is row_test slots
