@@ -1,4 +1,5 @@
 pub mod Bytes
+pub mod Free
 pub mod Headers
 pub mod SetSlots
 pub mod RuleSlots

@@ -3,7 +3,7 @@
 
 ghost use Rattle.std.specs.Prelude.{◌≡◌, ◌≤◌, List, map, length, MatchResult, T};
 ghost use Rattle.meaning.specs.Sizes.{SETS-AT};
-ghost use Rattle.meaning.specs.Basics.{all};
+ghost use Rattle.meaning.specs.Basics.{all, is_zero};
 ghost use Rattle.filter.specs.Slots.{FilterBytes, prefix_fits, rule_of};
 ghost use Rattle.plan.specs.Layout.{set_room, rule_room, rule_count};
 ghost use Rattle.plan.specs.State.{sound_of};
@@ -63,13 +63,21 @@ fn header_passes(memory: &[u8]) -> bool
     SETS_AT <= memory.len() && fixed_pass(memory) && opening_passes(memory) && sizes_pass(memory)
 }
 
+// Whether a part that holds nothing is 0, by eights: much room may be free.
+pub fn is_free(part: &[u8]) -> bool
+    ensures { result ≡ all is_zero part.now }
+{
+    let (eights, rest) = part.as_chunks::<8>();
+    eights.iter().all(|&b| u64::from_le_bytes(b) == 0) && buffer::all_zero(rest)
+}
+
 // Whether a set slot is all 0, or held with a content that passes and nothing behind it.
 #[tactic(auto, unfolding(crate::specs::Examined::slot_test))]
 fn slot_passes(slot: &[u8; SET_WIDTH]) -> bool
     ensures { result ≡ slot_test slot.now }
 {
     if slot[0] == 0 {
-        return buffer::all_zero(slot);
+        return is_free(slot);
     }
     let content = &slot[CONTENT_AT..COUNT_AT];
     slot[0] == 1
@@ -132,7 +140,7 @@ pub fn rules_rise(rules: &[[u8; RULE_WIDTH]]) -> bool
 fn areas_pass(sets: &[[u8; SET_WIDTH]], rules: &[[u8; RULE_WIDTH]], free: &[u8]) -> bool
     ensures { result ≡ areas_pass sets.now rules.now free.now }
 {
-    slots_pass(sets) && rules_pass(rules, sets) && rules_rise(rules) && buffer::all_zero(free)
+    slots_pass(sets) && rules_pass(rules, sets) && rules_rise(rules) && is_free(free)
 }
 
 // Whether what stands behind the header is the slots of a sound plan.

@@ -49,7 +49,7 @@ fn slots_pass(slots: &[[u8; RULE_WIDTH]]) -> bool
 fn rows_pass(slots: &[[u8; RULE_WIDTH]], free: &[u8]) -> bool
     ensures { result ≡ rows_pass slots.now free.now }
 {
-    slots_pass(slots) && examiner::rules_rise(slots) && buffer::all_zero(free)
+    slots_pass(slots) && examiner::rules_rise(slots) && examiner::is_free(free)
 }
 
 // Whether a lent price list is in range.
