@@ -107,10 +107,10 @@ module _ (m : List ℕ) {number : List ℕ} (sound : sound_of m ≡ true) (k : K
       in_call : Chargeable l body → number ≡ (call_record_of body).number → HoldsAnswer (answer_of (plan_of m) (number_in body)) digits r
       in_call c e = subst (λ (x : List ℕ). HoldsAnswer (answer_of (plan_of m) (number_of x)) digits r) e h
 
-      pub own_line : {output left : List ℕ} {n : ℕ} (b : Bool) → OfRecord b l body number → r.refusal ≢ 0 → Writes (no_line r.refusal) output left n
+      pub own_line : {output left : List ℕ} {n : ℕ} (b : Bool) → OfRecord b prices l body number → r.refusal ≢ 0 → Writes (no_line r.refusal) output left n
           → AnsweredPromise b (state_of m) (rows_in prices) l body output l left n
       own_line true o i w =
-          let c = o.charged_with refl in
+          let c = (o.charged_with refl).chargeable in
           let h' = in_call c (o.in_record refl) in
           let same : answer_of (plan_of m) (number_of number) ≡ answer_of (plan_of m) (number_in body) = ap (λ (x : List ℕ). answer_of (plan_of m) (number_of x)) (o.in_record refl) in
           rw (state_some m sound) (refuses m prices l body true (some (plan_of m)) r.refusal (charged_own m prices c h' i ∙ (sym same ∙ own i)) (holds_own m prices c h' i).ledger i w)
@@ -121,18 +121,18 @@ module _ (m : List ℕ) {number : List ℕ} (sound : sound_of m ≡ true) (k : K
         abbrev due : Option ℕ
         due = due_on (rows_in prices) (call_record_of body).seconds (priced_by r.outcome (number_in body).digits (take r.digits digits))
 
-        pub refused_charge : {output left : List ℕ} {n c : ℕ} {after : Ledger} (b : Bool) → OfRecord b l body number → ChargesIf b due (call_record_of body) l after c → c ≢ 0
+        pub refused_charge : {output left : List ℕ} {n c : ℕ} {after : Ledger} (b : Bool) → OfRecord b prices l body number → ChargesIf b due (call_record_of body) l after c → c ≢ 0
             → Writes (no_line c) output left n → AnsweredPromise b (state_of m) (rows_in prices) l body output after left n
         refused_charge {c = c} true o g i w =
-            let k' = o.charged_with refl in
+            let k' = (o.charged_with refl).chargeable in
             let h' = in_call k' (o.in_record refl) in
             rw (state_some m sound) (refuses m prices l body true (some (plan_of m)) c (charged_refused m prices k' h' given (g.charges refl) i) (charged_ledger m prices k' h' given (g.charges refl)) i w)
         refused_charge false o g i w = absurd (i (g.none_is refl))
 
-        pub answered_written : {output left : List ℕ} {n c : ℕ} {after : Ledger} (b : Bool) → OfRecord b l body number → ChargesIf b due (call_record_of body) l after c → c ≡ 0
+        pub answered_written : {output left : List ℕ} {n c : ℕ} {after : Ledger} (b : Bool) → OfRecord b prices l body number → ChargesIf b due (call_record_of body) l after c → c ≡ 0
             → Writes (number_line (answer_in r (take r.digits digits))) output left n → AnsweredPromise b (state_of m) (rows_in prices) l body output after left n
         answered_written true o g i w =
-            let k' = o.charged_with refl in
+            let k' = (o.charged_with refl).chargeable in
             let h' = in_call k' (o.in_record refl) in
             let is : answer_of (plan_of m) (number_of number) ≡ charged (some (plan_of m)) (some (rows_in prices)) l DIGIT-ROOM body =
             ap (λ (x : List ℕ). answer_of (plan_of m) (number_of x)) (o.in_record refl) ∙ sym (charged_answered m prices k' h' given (g.charges refl) i) in

@@ -4,7 +4,6 @@
 ghost use Rattle.std.specs.Prelude.{◌≡◌, true, ◌≤◌, ◌<◌, length, None};
 ghost use Rattle.meaning.specs.Sizes.{PRICE-BODY, DISTRICTS as DISTRICT-COUNT};
 ghost use Rattle.meaning.specs.Ledger.{ledger_of, totals_at, ledger_in_range};
-ghost use Rattle.meaning.specs.Answers.{number_of_refusal};
 ghost use Rattle.meaning.specs.Records.{no_line, loss_line, total_line};
 ghost use Rattle.plan.specs.State.{state_of};
 ghost use Rattle.number.specs.Answering.{Known};
@@ -12,12 +11,11 @@ ghost use Rattle.prices.specs.Layout.{rows_in, prices_in_range};
 ghost use Rattle.text.specs.Writes.{LONGEST, Writes};
 ghost use Rattle.billing.specs.Lines.{AnsweredPromise, OfRecord, PricePromise, LossPromise};
 
+use meaning::Totals;
 use meaning::refusals::ACCEPTED;
 use meaning::sizes::{DISTRICTS, LEDGER_NUMBERS};
-use meaning::{Refusal, Totals};
 use number::ANSWER_BYTES;
 use plan::SoundPlan;
-use prices::PriceList;
 
 // A line of a number, alone or in a call record: how many bytes it has, and the whole's totals behind it.
 #[derive(Clone, Copy)]
@@ -36,18 +34,18 @@ pub struct Reported {
 // A NUMBER, AND A CALL RECORD
 
 // The line of a refusal: the whole's totals stay.
-pub fn refused_line(refusal: Refusal, whole: Totals, output: &mut [u8]) -> Entered
+pub fn refused_line(number: u8, whole: Totals, output: &mut [u8]) -> Entered
     requires { LONGEST ≤ length output.old }
-    ensures { Writes (no_line (number_of_refusal refusal)) output.old output.new result.written × (result.whole ≡ whole) }
+    ensures { Writes (no_line number) output.old output.new result.written × (result.whole ≡ whole) }
 {
-    let written = text::no_line(u8::from(refusal), output);
+    let written = text::no_line(number, output);
     Entered { written, whole }
 }
 
 // The line of a number in range. A call record is charged before it has its line.
 pub fn answered_line(
     plan: SoundPlan,
-    prices: PriceList,
+    prices: &[u8],
     districts: &mut [i64; LEDGER_NUMBERS],
     whole: Totals,
     call: bool,
@@ -55,14 +53,13 @@ pub fn answered_line(
     number: &[u8],
     output: &mut [u8],
 ) -> Entered
-    requires { Known number.now × OfRecord call (ledger_of districts.old whole) body.now number.now × (LONGEST ≤ length output.old) }
-    ensures { AnsweredPromise call (state_of plan.entry.memory.now) (rows_in prices.entry.memory.now) (ledger_of districts.old whole) body.now output.old (ledger_of districts.new result.whole) output.new result.written }
+    requires { Known number.now × OfRecord call prices.now (ledger_of districts.old whole) body.now number.now × (LONGEST ≤ length output.old) }
+    ensures { AnsweredPromise call (state_of plan.entry.memory.now) (rows_in prices.now) (ledger_of districts.old whole) body.now output.old (ledger_of districts.new result.whole) output.new result.written }
 {
     let mut digits = [0u8; ANSWER_BYTES];
     let answer = number::answer_held(plan, number, &mut digits);
     if answer.refusal != ACCEPTED {
-        let written = text::no_line(answer.refusal, output);
-        return Entered { written, whole };
+        return refused_line(answer.refusal, whole, output);
     }
     let outgoing = &digits[..answer.digits];
     match charging::charge(
@@ -74,7 +71,7 @@ pub fn answered_line(
         answer.outcome,
         outgoing,
     ) {
-        Err(refusal) => refused_line(refusal, whole, output),
+        Err(refusal) => refused_line(u8::from(refusal), whole, output),
         Ok(left) => {
             let written = text::number_line(answer, outgoing, output);
             Entered {

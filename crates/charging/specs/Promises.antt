@@ -12,7 +12,7 @@ use Rattle.meaning.specs.declared.Taken.{Taken}
 use Rattle.meaning.specs.declared.Totals.{Totals}
 use Rattle.plan.specs.Layout.{plan_of}
 use Rattle.plan.specs.State.{state_of}
-use Rattle.prices.specs.Layout.{rows_in, prices_of}
+use Rattle.prices.specs.Layout.{rows_in, prices_in_range, prices_of}
 use Rattle.number.specs.Promises.{HoldsAnswer, GivesAnswer}
 
 -- the fields before a call record's number: the first three tests of its range
@@ -31,6 +31,11 @@ pub record Chargeable (l : Ledger) (body : List ℕ) : Type 0 where
   pub ledger_in : ledger_in_range l ≡ true
   pub whole : length body ≡ CALL-BYTES
   pub range : call_in_range body ≡ true
+
+-- a price list beside them that is in range
+pub record Priceable (prices : List ℕ) (l : Ledger) (body : List ℕ) : Type 0 where
+  pub prices_in : prices_in_range prices ≡ true
+  pub chargeable : Chargeable l body
 
 -- the answer, with its digits at the front of a buffer of which nothing else is said, and the ledger that is left
 pub record HoldsTaken (m prices : List ℕ) (l : Ledger) (body : List ℕ) (after : Ledger) (digits : List ℕ) (r : Answered) : Type 0 where

@@ -11,7 +11,7 @@ ghost use Rattle.meaning.specs.Answers.{number_of_refusal};
 ghost use Rattle.prices.specs.Layout.{rows_in};
 ghost use Rattle.number.specs.Answering.{ANSWER-BYTES};
 ghost use Rattle.charging.specs.Dues.{GivesDue, whole_behind, refusal_of_charge, Charges, ChargesIf};
-ghost use Rattle.charging.specs.Promises.{head_in_range, refused_as, Chargeable, HoldsTaken, TakesKnown, Takes};
+ghost use Rattle.charging.specs.Promises.{head_in_range, refused_as, Chargeable, Priceable, HoldsTaken, TakesKnown, Takes};
 
 use meaning::refusals::ACCEPTED;
 use meaning::sizes::{
@@ -111,20 +111,21 @@ fn enter(
 // Charges a number that was answered, where it is a call record's: what it is due goes on the ledger, or it draws NO PRICE or LEDGER FULL, and the whole's totals stay.
 pub fn charge(
     call: bool,
-    prices: PriceList,
+    prices: &[u8],
     districts: &mut [i64; LEDGER_NUMBERS],
     whole: Totals,
     body: &[u8],
     outcome: u8,
     outgoing: &[u8],
 ) -> Result<Totals, Refusal>
-    requires { call ≡ true → Chargeable (ledger_of districts.old whole) body.now }
-    ensures { ChargesIf call (due_on (rows_in prices.entry.memory.now) (call_record_of body.now).seconds (priced_by outcome (number_in body.now).digits outgoing.now)) (call_record_of body.now) (ledger_of districts.old whole) (ledger_of districts.new (whole_behind whole result)) (refusal_of_charge result) }
+    requires { call ≡ true → Priceable prices.now (ledger_of districts.old whole) body.now }
+    ensures { ChargesIf call (due_on (rows_in prices.now) (call_record_of body.now).seconds (priced_by outcome (number_in body.now).digits outgoing.now)) (call_record_of body.now) (ledger_of districts.old whole) (ledger_of districts.new (whole_behind whole result)) (refusal_of_charge result) }
 {
     if !call {
         return Ok(whole);
     }
-    match due_of(prices, body, outcome, outgoing) {
+    let list = PriceList { memory: prices };
+    match due_of(list, body, outcome, outgoing) {
         None => Err(Refusal::NoPrice),
         Some(due) => enter(districts, whole, body, due),
     }
@@ -135,7 +136,7 @@ fn refused(refusal: Refusal, whole: Totals) -> Taken
     ensures { result ≡ refused_as (number_of_refusal refusal) whole }
 {
     Taken {
-        answer: number::refused(refusal),
+        answer: number::refuse(refusal),
         whole,
     }
 }
@@ -159,7 +160,7 @@ fn charge_held(
     let outgoing = &digits[..answer.digits];
     match charge(
         true,
-        prices,
+        prices.memory,
         districts,
         whole,
         body,

@@ -60,11 +60,11 @@ impl From<Outcome> for u8 {
 
 // A refusal: its number, and every other field 0.
 #[tactic(auto, unfolding(meaning::specs::Answer::refused))]
-pub fn refused(refusal: Refusal) -> Answered
-    ensures { result ≡ answered_as (refused (number_of_refusal refusal)) }
+pub fn refused(number: u8) -> Answered
+    ensures { result ≡ answered_as (refused number) }
 {
     Answered {
-        refusal: u8::from(refusal),
+        refusal: number,
         outcome: 0,
         class: 0,
         response: 0,
@@ -72,6 +72,13 @@ pub fn refused(refusal: Refusal) -> Answered
         actions: [0u8; 8],
         digits: 0,
     }
+}
+
+// The same of one that is known.
+pub fn refuse(refusal: Refusal) -> Answered
+    ensures { result ≡ answered_as (refused (number_of_refusal refusal)) }
+{
+    refused(u8::from(refusal))
 }
 
 // An answer before the service actions.
@@ -141,7 +148,7 @@ fn finish(
     }
     let written = join_outgoing(settings, body, cas, s, fas, marks, MOST, out);
     if MOST < written {
-        return refused(Refusal::Long);
+        return refuse(Refusal::Long);
     }
     served(Outcome::Formatted, class, s, written)
 }
@@ -166,7 +173,7 @@ fn answer_by(
     }
     let mut marks = Marks::none();
     if mark_spans(cas, prefix, n, DIALLED_DIGITS_AT, &mut marks) {
-        return refused(Refusal::Short);
+        return refuse(Refusal::Short);
     }
     let s = services::service_stage(
         actions::sas_of(content),
@@ -231,18 +238,18 @@ pub fn answer(plan: &[u8], body: &[u8], out: &mut [u8]) -> Answered
     ensures { AnswerPromise plan.now body.now out.old out.new result }
 {
     if body.len() < NUMBER_BYTES {
-        return refused(Refusal::Cut);
+        return refuse(Refusal::Cut);
     }
     let plan = match examiner::examine(plan) {
         Ok(plan) => plan,
-        Err(refusal) => return refused(refusal),
+        Err(refusal) => return refuse(refusal),
     };
     if out.len() < DIGIT_ROOM {
-        return refused(Refusal::Room);
+        return refuse(Refusal::Room);
     }
     let number = &body[0..NUMBER_BYTES];
     if !ranges::number_in_range(number) {
-        return refused(Refusal::Range);
+        return refuse(Refusal::Range);
     }
     answer_known(plan, number, out)
 }

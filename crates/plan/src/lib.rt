@@ -37,7 +37,49 @@ pub struct SoundPlan<'a> {
     ghost sound: { sound_of memory.now ≡ true },
 }
 
-// READERS
+// READERS: of a header, whether the memory behind it is sound or not
+
+// The room for sets.
+pub fn set_room(memory: &[u8]) -> usize
+    requires { HEADER-BYTES ≤ length memory.now }
+    ensures { Number (set_room memory.now) result }
+{
+    buffer::word(memory, ROOMS_AT)
+}
+
+// The room for rules.
+pub fn rule_room(memory: &[u8]) -> usize
+    requires { HEADER-BYTES ≤ length memory.now }
+    ensures { Number (rule_room memory.now) result }
+{
+    buffer::word(memory, RULE_ROOM_AT)
+}
+
+// The count of rules held.
+pub fn rule_count(memory: &[u8]) -> usize
+    requires { HEADER-BYTES ≤ length memory.now }
+    ensures { Number (rule_count memory.now) result }
+{
+    buffer::word(memory, RULES_AT)
+}
+
+// The settings of the opening.
+pub fn settings(memory: &[u8]) -> &[u8]
+    requires { HEADER-BYTES ≤ length memory.now }
+    ensures { result.now ≡ (plan_of memory.now).settings }
+{
+    &memory[SETTINGS_AT..SETTINGS_END]
+}
+
+// Whether a set number is at or over the room.
+pub fn is_over_room(memory: &[u8], set: SetNumber) -> bool
+    requires { HEADER-BYTES ≤ length memory.now }
+    ensures { result ≡ over_room (plan_of memory.now) set.0 }
+{
+    set_room(memory) <= set.0 as usize
+}
+
+// READERS OF A SOUND PLAN
 
 // The set number at a place of some bytes.
 pub fn set_number(bytes: &[u8], at: usize) -> SetNumber
@@ -74,28 +116,28 @@ impl<'a> SoundPlan<'a> {
     pub fn set_room(self) -> usize
         ensures { Number (set_room self.entry.memory.now) result }
     {
-        buffer::word(self.memory, ROOMS_AT)
+        set_room(self.memory)
     }
 
     // The room for rules.
     pub fn rule_room(self) -> usize
         ensures { Number (rule_room self.entry.memory.now) result }
     {
-        buffer::word(self.memory, RULE_ROOM_AT)
+        rule_room(self.memory)
     }
 
     // The count of rules held.
     pub fn rule_count(self) -> usize
         ensures { Number (rule_count self.entry.memory.now) result }
     {
-        buffer::word(self.memory, RULES_AT)
+        rule_count(self.memory)
     }
 
     // The settings of the opening.
     pub fn settings(self) -> &'a [u8]
         ensures { result.now ≡ (plan_of self.entry.memory.now).settings }
     {
-        &self.memory[SETTINGS_AT..SETTINGS_END]
+        settings(self.memory)
     }
 
     // Where the rule slots begin.
@@ -118,7 +160,7 @@ impl<'a> SoundPlan<'a> {
     pub fn is_over_room(self, set: SetNumber) -> bool
         ensures { result ≡ over_room (plan_of self.entry.memory.now) set.0 }
     {
-        self.set_room() <= set.0 as usize
+        is_over_room(self.memory, set)
     }
 
     // Whether a set is held; a number over the room for sets never is.

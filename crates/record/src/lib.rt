@@ -25,7 +25,6 @@ use meaning::sizes::{
 };
 use meaning::{Refusal, RulePlace, Totals, kinds};
 use plan::SoundPlan;
-use prices::PriceList;
 
 // The bytes that a record of a kind takes: its kind, and its body.
 const NUMBER_RECORD: usize = 1 + NUMBER_BYTES;
@@ -214,11 +213,11 @@ fn number_line(
     let end = at + NUMBER_BYTES;
     let number = &input[at..end];
     if !ranges::number_in_range(number) {
-        return billing::refused_line(Refusal::Range, run.whole, output);
+        return billing::refused_line(u8::from(Refusal::Range), run.whole, output);
     }
     billing::answered_line(
         SoundPlan { memory: plan },
-        PriceList { memory: prices },
+        prices,
         districts,
         run.whole,
         kind == kinds::CALL,

@@ -11,7 +11,8 @@ pub answer_held-answer-requires : goal.answer_held-answer-requires
 answer_held-answer-requires c = record { known = c.requires.0; room = omega arith }
 
 pub returns-then-answer-ne-ACCEPTED : goal.returns-then-answer-ne-ACCEPTED
-returns-then-answer-ne-ACCEPTED c = own_line c.args.plan.memory.now c.args.plan.sound c.requires.0 c.answer_held-answer.ensures _ _ _ _ c.requires.1 c.if-answer-ne-ACCEPTED.true c.no_line-written.ensures
+returns-then-answer-ne-ACCEPTED c = rw c.refused_line.ensures.1
+    (own_line c.args.plan.memory.now c.args.plan.sound c.requires.0 c.answer_held-answer.ensures _ _ _ _ c.requires.1 c.if-answer-ne-ACCEPTED.true c.refused_line.ensures.0)
 
 pub slice_bounds-outgoing-end : goal.slice_bounds-outgoing-end
 slice_bounds-outgoing-end c = sym (length-take-le _ _ (holds_inside c.answer_held-answer.ensures))
@@ -20,8 +21,8 @@ pub charge-requires : goal.charge-requires
 charge-requires c = λ e. c.requires.1.charged_with e
 
 pub returns-in-Err : goal.returns-in-Err
-returns-in-Err c = rw c.refused_line.ensures.1 (refused_charge c.args.plan.memory.now c.args.plan.sound c.requires.0 c.answer_held-answer.ensures _ _ _ c.if-answer-ne-ACCEPTED.false _ c.requires.1 c.in-Err.ensures
-    (refusal_number c.in-Err.refusal) c.refused_line.ensures.0)
+returns-in-Err c = rw c.refused_line-in-Err.ensures.1 (refused_charge c.args.plan.memory.now c.args.plan.sound c.requires.0 c.answer_held-answer.ensures _ _ _ c.if-answer-ne-ACCEPTED.false _ c.requires.1 c.in-Err.ensures
+    (refusal_number c.in-Err.refusal) (rw c.from.ensures at c.refused_line-in-Err.ensures.0))
 
 pub number_line-written-requires : goal.number_line-written-requires
 number_line-written-requires c = (answered_in c.args.plan.memory.now c.args.plan.sound c.requires.0 c.answer_held-answer.ensures, c.requires.2)

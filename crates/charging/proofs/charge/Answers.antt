@@ -6,12 +6,15 @@ use Rattle.charging.proofs.charge.Goals as goal
 pub returns-then-not-call : goal.returns-then-not-call
 returns-then-not-call c = charges_number (c.if-not-call.true)
 
+pub invariant_of-list : goal.invariant_of-list
+invariant_of-list c = record { in_range = (c.requires (c.if-not-call.false)).prices_in }
+
 pub due_of-requires : goal.due_of-requires
-due_of-requires c = let k = c.requires (c.if-not-call.false) in
+due_of-requires c = let k = (c.requires (c.if-not-call.false)).chargeable in
     (k.whole, k.range)
 
 pub enter-requires : goal.enter-requires
-enter-requires c = let k = c.requires (c.if-not-call.false) in
+enter-requires c = let k = (c.requires (c.if-not-call.false)).chargeable in
     (k.ledger_in, k.whole, k.range, due_small c.due_of.ensures c.in-Some.is)
 
 pub returns-in-None : goal.returns-in-None

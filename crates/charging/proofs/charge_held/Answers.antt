@@ -20,7 +20,7 @@ pub slice_bounds-outgoing-end : goal.slice_bounds-outgoing-end
 slice_bounds-outgoing-end c = holds_inside c.answer_held-answer.ensures
 
 pub charge-requires : goal.charge-requires
-charge-requires c = λ e. c.requires.0
+charge-requires c = λ e. record { prices_in = c.args.prices.in_range; chargeable = c.requires.0 }
 
 pub returns-in-Err : goal.returns-in-Err
 unfolding call_record_of

@@ -5,4 +5,4 @@ use Rattle.charging.specs.Promises.{taken_as}
 use Rattle.charging.proofs.refused.Goals as goal
 
 pub returns : goal.returns
-returns c = ap (λ (a : Answered). taken_as a c.args.whole) c.refused.ensures
+returns c = ap (λ (a : Answered). taken_as a c.args.whole) c.refuse.ensures

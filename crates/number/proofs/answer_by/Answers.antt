@@ -15,7 +15,7 @@ returns-then-no_conditioning c = let a = c.args in
 pub returns-then-mark_spans : goal.returns-then-mark_spans
 returns-then-mark_spans c = let a = c.args in
     let short = sym c.mark_spans.ensures.short_is ∙ c.if-mark_spans.true in
-    holds_refused _ _ _ _ (given_short a.settings.now (lookup_in a.body.now) (get_or a.body.now 0 0) (digits_in a.n a.body.now) a.prefix a.content.now _ c.cas_of-cas.ensures _ c.outgoing_class-sent.ensures (sym c.no_conditioning.ensures ∙ c.if-no_conditioning.false) (rw (digits_long a.body.now a.n (omega (arith, c.requires.body_long, c.requires.few))) short)) c.refused.ensures
+    holds_refused _ _ _ _ (given_short a.settings.now (lookup_in a.body.now) (get_or a.body.now 0 0) (digits_in a.n a.body.now) a.prefix a.content.now _ c.cas_of-cas.ensures _ c.outgoing_class-sent.ensures (sym c.no_conditioning.ensures ∙ c.if-no_conditioning.false) (rw (digits_long a.body.now a.n (omega (arith, c.requires.body_long, c.requires.few))) short)) c.refuse.ensures
 
 pub service_stage-s-requires : goal.service_stage-s-requires
 service_stage-s-requires c = serviceable c.args.settings.now c.args.body.now c.args.n c.args.content.now c.args.out.now c.requires _ _ c.sas_of.ensures refl

@@ -9,7 +9,7 @@ pub returns-then-s : goal.returns-then-s
 returns-then-s c = holds_withheld _ _ _ _ _ _ c.if-s-ge-CONNECT.false c.if-s.true c.served-then-s.ensures
 
 pub returns-then-written-gt-MOST : goal.returns-then-written-gt-MOST
-returns-then-written-gt-MOST c = holds_long _ _ _ _ _ _ c.if-s-ge-CONNECT.false c.if-s.false _ c.join_outgoing-written.ensures c.if-written-gt-MOST.true c.refused.ensures
+returns-then-written-gt-MOST c = holds_long _ _ _ _ _ _ c.if-s-ge-CONNECT.false c.if-s.false _ c.join_outgoing-written.ensures c.if-written-gt-MOST.true c.refuse.ensures
 
 pub returns : goal.returns
 returns c = holds_written _ _ _ _ _ _ c.if-s-ge-CONNECT.false c.if-s.false _ c.join_outgoing-written.ensures c.if-written-gt-MOST.false c.served-2.ensures

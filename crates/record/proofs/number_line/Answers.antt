@@ -16,7 +16,7 @@ number_in_range-requires c = at_long c.args.at c.args.input.now c.requires.2
 
 pub returns-then-not-number_in_range : goal.returns-then-not-number_in_range
 returns-then-not-number_in_range c = rw c.refused_line.ensures.1
-    (outside_line _ _ _ _ _ (at_size c.requires.2) (c.requires.0.plan_in.state ∙ c.requires.1) (at_outside c.requires.2 (sym c.number_in_range.ensures ∙ c.if-not-number_in_range.true)) c.refused_line.ensures.0)
+    (outside_line _ _ _ _ _ (at_size c.requires.2) (c.requires.0.plan_in.state ∙ c.requires.1) (at_outside c.requires.2 (sym c.number_in_range.ensures ∙ c.if-not-number_in_range.true)) (rw c.from.ensures at c.refused_line.ensures.0))
 
 pub slice_bounds-answered_line-end : goal.slice_bounds-answered_line-end
 slice_bounds-answered_line-end c = at_fits c.requires.2
@@ -24,7 +24,7 @@ slice_bounds-answered_line-end c = at_fits c.requires.2
 pub answered_line-requires : goal.answered_line-requires
 answered_line-requires c = let range = sym c.number_in_range.ensures ∙ c.if-not-number_in_range.false in (
   record { whole = at_long c.args.at c.args.input.now c.requires.2; range = range },
-  rw (at_body c.requires.2) (at_record c.requires.2 c.requires.0.ledger_in range),
+  rw (at_body c.requires.2) (at_record c.requires.2 c.requires.0.prices_in c.requires.0.ledger_in range),
   c.requires.3,
 )
 

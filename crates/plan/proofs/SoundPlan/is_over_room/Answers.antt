@@ -1,9 +1,7 @@
--- The room as read is the plan's.
-use mathlib.Core.Path.{ap}
-use lib.Dec.{leb}
-use Rattle.plan.specs.Layout.{plan_of}
+-- A sound plan has a header.
+use native.Mathlib.Omega.{arith}
+use Rattle.plan.proofs.ReadLaws.{numbers}
 use Rattle.plan.proofs.SoundPlan.is_over_room.Goals as goal
 
-pub returns : goal.returns
-unfolding plan_of
-returns c = ap (λ n. leb n c.args.set.0) c.set_room.ensures.is
+pub is_over_room-requires : goal.is_over_room-requires
+is_over_room-requires c = let header = (numbers c.args.self.memory.now c.args.self.sound).header in omega (arith, header)

@@ -1,11 +1,7 @@
--- The rooms' bytes stand in the header.
-use mathlib.Core.Path.{◌∙◌}
+-- A sound plan has a header.
 use native.Mathlib.Omega.{arith}
-use Rattle.plan.proofs.ReadLaws.{numbers, rule_room_read}
+use Rattle.plan.proofs.ReadLaws.{numbers}
 use Rattle.plan.proofs.SoundPlan.rule_room.Goals as goal
 
-pub word-requires : goal.word-requires
-word-requires c = let header = (numbers c.args.self.memory.now c.args.self.sound).header in omega (arith, header)
-
-pub returns : goal.returns
-returns c = record { is = c.word.ensures.is ∙ rule_room_read c.args.self.memory.now; small = c.word.ensures.small }
+pub rule_room-requires : goal.rule_room-requires
+rule_room-requires c = let header = (numbers c.args.self.memory.now c.args.self.sound).header in omega (arith, header)
