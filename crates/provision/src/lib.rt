@@ -1,5 +1,5 @@
-// Opening a plan, and provisioning it: sets and rules added, changed and removed. The public calls, for any plan bytes and any body bytes, are the opening and the edits by name, and
-// all of them by their kind.
+// Opening a plan, and provisioning it: sets and rules added, changed and removed. The public calls, for any plan bytes and any body bytes, are the opening and the edits by name, all by
+// one function, `carry_out`, with their kind.
 #![tactic(auto)]
 
 ghost use Rattle.std.specs.Prelude.{◌≡◌, length};
@@ -12,7 +12,7 @@ ghost use Rattle.changes.specs.Promise.{memory_of, Provides, Carries, calls};
 ghost use Rattle.changes.specs.Given.{KnownEdit};
 
 use meaning::Refusal;
-use meaning::kinds::{Edit, Kind};
+use meaning::kinds::{self, Edit, Kind};
 use meaning::sizes::OPENING_BYTES;
 use plan::SoundPlan;
 
@@ -61,6 +61,16 @@ pub fn change_known(plan: &mut [u8], edit: Edit, body: &[u8]) -> Result<(), Refu
 
 // OVER ANY BYTES
 
+// The opening: CUT, then the opening over any memory.
+fn opening(plan: &mut [u8], body: &[u8]) -> Result<(), Refusal>
+    ensures { Provides (calls open_plan body.now) plan.old plan.new (number_of_provisioned result) }
+{
+    if body.len() < OPENING_BYTES {
+        return Err(Refusal::Cut);
+    }
+    set_changes::open_known(plan, &body[0..OPENING_BYTES])
+}
+
 // An edit: CUT, PLAN, then the edit over a known plan.
 fn change(plan: &mut [u8], edit: Edit, body: &[u8]) -> Result<(), Refusal>
     ensures { Provides (calls (edit_of edit) body.now) plan.old plan.new (number_of_provisioned result) }
@@ -80,7 +90,7 @@ pub fn carry_out(plan: &mut [u8], kind: u8, body: &[u8]) -> Result<(), Refusal>
     ensures { Carries kind body.now plan.old plan.new (number_of_provisioned result) }
 {
     match Kind::try_from(kind) {
-        Ok(Kind::Opening) => open(plan, body),
+        Ok(Kind::Opening) => opening(plan, body),
         Ok(Kind::Edit(edit)) => change(plan, edit, body),
         Ok(Kind::Number) => Err(Refusal::Kind),
         Ok(Kind::Refs) => Err(Refusal::Kind),
@@ -96,50 +106,47 @@ pub fn carry_out(plan: &mut [u8], kind: u8, body: &[u8]) -> Result<(), Refusal>
 pub fn open(plan: &mut [u8], body: &[u8]) -> Result<(), Refusal>
     ensures { Provides (calls open_plan body.now) plan.old plan.new (number_of_provisioned result) }
 {
-    if body.len() < OPENING_BYTES {
-        return Err(Refusal::Cut);
-    }
-    set_changes::open_known(plan, &body[0..OPENING_BYTES])
+    carry_out(plan, kinds::OPEN_PLAN, body)
 }
 
 // Adds a set.
 pub fn add_set(plan: &mut [u8], body: &[u8]) -> Result<(), Refusal>
     ensures { Provides (calls add_set body.now) plan.old plan.new (number_of_provisioned result) }
 {
-    change(plan, Edit::AddSet, body)
+    carry_out(plan, kinds::ADD_SET, body)
 }
 
 // Replaces the content of a set.
 pub fn replace_set(plan: &mut [u8], body: &[u8]) -> Result<(), Refusal>
     ensures { Provides (calls replace_set body.now) plan.old plan.new (number_of_provisioned result) }
 {
-    change(plan, Edit::ReplaceSet, body)
+    carry_out(plan, kinds::REPLACE_SET, body)
 }
 
 // Removes a set that no rule names.
 pub fn remove_set(plan: &mut [u8], body: &[u8]) -> Result<(), Refusal>
     ensures { Provides (calls remove_set body.now) plan.old plan.new (number_of_provisioned result) }
 {
-    change(plan, Edit::RemoveSet, body)
+    carry_out(plan, kinds::REMOVE_SET, body)
 }
 
 // Adds a rule.
 pub fn add_rule(plan: &mut [u8], body: &[u8]) -> Result<(), Refusal>
     ensures { Provides (calls add_rule body.now) plan.old plan.new (number_of_provisioned result) }
 {
-    change(plan, Edit::AddRule, body)
+    carry_out(plan, kinds::ADD_RULE, body)
 }
 
 // Changes the set that a rule names.
 pub fn change_rule(plan: &mut [u8], body: &[u8]) -> Result<(), Refusal>
     ensures { Provides (calls change_rule body.now) plan.old plan.new (number_of_provisioned result) }
 {
-    change(plan, Edit::ChangeRule, body)
+    carry_out(plan, kinds::CHANGE_RULE, body)
 }
 
 // Removes a rule.
 pub fn remove_rule(plan: &mut [u8], body: &[u8]) -> Result<(), Refusal>
     ensures { Provides (calls remove_rule body.now) plan.old plan.new (number_of_provisioned result) }
 {
-    change(plan, Edit::RemoveRule, body)
+    carry_out(plan, kinds::REMOVE_RULE, body)
 }

@@ -7,7 +7,7 @@ use Rattle.changes.proofs.PromiseLaws.{opens_kind, edits_kind, no_kind, other_ki
 use Rattle.provision.proofs.carry_out.Goals as goal
 
 pub returns-in-Ok-Opening : goal.returns-in-Ok-Opening
-returns-in-Ok-Opening c = opens_kind (kind_told c.try_from.ensures (c.in-Ok-Opening.is ∙ ap Ok c.in-Ok-Opening.field-0-is)) c.open.ensures
+returns-in-Ok-Opening c = opens_kind (kind_told c.try_from.ensures (c.in-Ok-Opening.is ∙ ap Ok c.in-Ok-Opening.field-0-is)) c.opening.ensures
 
 pub returns-in-Ok-Edit : goal.returns-in-Ok-Edit
 returns-in-Ok-Edit c = edits_kind _ (kind_told c.try_from.ensures (c.in-Ok-Edit.is ∙ ap Ok c.in-Ok-Edit.field-0-is)) c.change.ensures
