@@ -41,23 +41,23 @@ fn narrow(rules: &[u8], places: Range<usize>, column: usize, d: u8) -> Range<usi
     from..to
 }
 
-// What a rule weighs by its length, where its prefix is the first j digits of a number of n digits.
+// What a rule weighs by its length, where its prefix is the first j digits of a number of n digits. With a test for each of the three the walk
+// over rules of one prefix takes up to 1.4 times as long, by where in memory it comes to lie.
 #[tactic(auto, using(crate::proofs::Prefixes::weight_wildcard, crate::proofs::Prefixes::weight_stated, crate::proofs::Prefixes::weight_other))]
 fn weigh_length(len: u8, j: usize, n: usize) -> usize
     requires { j ≤ 16 }
     ensures { result ≡ length_weight j n len }
 {
-    if len == 0 {
-        return 2 * j + 1;
+    if len != 0 && usize::from(len) != n {
+        return 0;
     }
-    if usize::from(len) == n {
-        return 2 * j + 2;
-    }
-    0
+    2 * j + 1 + usize::from(len != 0)
 }
 
 // The same as `choose`, where the places of the number's class are known: from `from` to before `to`. Of `count` and `class` the promise alone
-// speaks. The places left are those of that class whose prefix begins with the number's first j digits, but for those already weighed.
+// speaks. The places left are those of that class whose prefix begins with the number's first j digits, but for those already weighed. By
+// itself, since the program's loop has no registers left for it.
+#[inline(never)]
 pub fn choose_among(
     rules: &[u8],
     count: usize,
