@@ -106,7 +106,7 @@ pub fn stretch_in<'a>(cas: &[u8], prefix: usize, digits: &'a [u8], v: u8) -> &'a
 // MARKS: where the digits of every value lie, found in one walk
 
 // The places of a table of marks: one for each formatting code, of which conditioning sets the first ten, and place 0 for actions that take no value.
-const PLACES: usize = DELIMITER_B as usize + 1;
+pub const PLACES: usize = DELIMITER_B as usize + 1;
 
 // Where the digits of every value lie: at its number, the place of the first of them, 0 for a value that is not marked, and how many they are.
 #[derive(Clone, Copy)]

@@ -1,14 +1,14 @@
 -- The tests of the range of a ledger, as the code asks them.
 use Prim.Native.Nat.{ℕ, zero, suc, ◌+◌}
-use mathlib.Core.Path.{ap, ◌≡◌, refl}
+use mathlib.Core.Path.{ap, ◌≡◌, refl, sym}
 use mathlib.Core.Bool.{Bool, true, false, ◌&&◌}
 use mathlib.Core.List.{List}
 use native.Mathlib.Omega.{arith}
-use borrow.Author.Tests.{le-leb}
+use borrow.Author.Tests.{le-leb, lt-leb, ltb-true}
 use lib.Dec.{leb}
 use Rattle.std.proofs.lemmas.Int.{ints}
 use lib.IntN.{ℤ, pos, negsuc, ◌*ℤ◌}
-use lib.Signed.{le_z}
+use lib.Signed.{le_z, lt_z}
 use mir.Syntax.{w64}
 use mir.Val.{SFits}
 use Rattle.meaning.specs.Sizes.{DISTRICTS}
@@ -27,6 +27,19 @@ no_count (negsuc m) (negsuc n) e = refl
 
 pub times_fits : (c : ℤ) → le_z c (pos LEDGER-LIMIT) ≡ true → le_z (pos 0) c ≡ true → SFits w64 (c *ℤ pos UNIT-LIMIT)
 times_fits c e f = grind (arith, ints)
+
+-- TOTALS
+
+over : (a b : ℤ) → lt_z b a ≡ true → le_z a b ≡ false
+over (pos m) (pos n) e = lt-leb m n (ltb-true n m e)
+over (pos m) (negsuc n) e = refl
+over (negsuc m) (pos n) e = true_false true refl (sym e)
+over (negsuc m) (negsuc n) e = lt-leb n m (ltb-true m n e)
+
+-- a count over the most
+pub totals_over_lem : (most : ℤ) (t : Totals) → lt_z most t.count ≡ true → false ≡ totals_in_range most t
+unfolding totals_in_range
+totals_over_lem most t e = rw (over t.count most e)
 
 -- DISTRICTS
 

@@ -43,9 +43,15 @@ rows_read : (rs : List PriceRow) → T (all row_passes rs) → map row_of (map r
 rows_read [] t = refl
 rows_read (r ∷ rs) t = ap₂ ◌∷◌ (row_back r (and_left (row_passes r) (all row_passes rs) t)) (rows_read rs (and_right (row_passes r) (all row_passes rs) t))
 
--- slots that pass have prefixes of at most 16 digits
+-- a slot that passes has a prefix of at most 16 digits
+fits_slot : (s : List ℕ) → T (row_test s) → T (prefix_fits s)
+fits_slot s t = le→leb (get_or s PREFIX-AT 0) 16 (slot_said s t)
+
+pub prefix_fits_lem : (s : List ℕ) → length s ≡ RULE-WIDTH → T (row_test s) → T (prefix_fits s)
+prefix_fits_lem s size = fits_slot s
+
 pub slots_fit : (ss : List (List ℕ)) → T (all row_test ss) → T (all prefix_fits ss)
-slots_fit ss = all_weaken row_test prefix_fits ss (λ s t. le→leb (get_or s PREFIX-AT 0) 16 (slot_said s t))
+slots_fit ss = all_weaken row_test prefix_fits ss fits_slot
 
 module _ (rs : List PriceRow) (t : T (all row_passes rs)) where
   pub rows_wide : Wide RULE-WIDTH (map row_image rs)

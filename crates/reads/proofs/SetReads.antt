@@ -7,12 +7,13 @@ use mathlib.Core.Option.{some}
 use native.Mathlib.Omega.{arith}
 use lib.ListN.{length, take, drop}
 use lib.Seq.{length-take-le, drop-length}
-use Rattle.std.specs.Prelude.{Result, Err}
-use borrow.Author.Tests.{lt-ltb}
+use Rattle.std.specs.Prelude.{Result, Ok, Err}
+use borrow.Author.Tests.{lt-ltb, le-ltb}
 use borrow.Rule.Slice.PartMut.{put_mid, mid_of}
 use Rattle.meaning.specs.Sizes.{SET-NUMBER-BYTES, CONTENT-BYTES, SET-BODY}
 use Rattle.meaning.specs.Basics.{written_over}
-use Rattle.meaning.specs.Reads.{set_content, referrer_count}
+use Rattle.meaning.specs.Plan.{Plan, held}
+use Rattle.meaning.specs.Reads.{over_room, set_content, referrer_count}
 use Rattle.meaning.specs.declared.Refusal.TheVariants.{Plan as NoPlan, Room}
 use Rattle.meaning.specs.declared.Refusal.{Refusal}
 use Rattle.buffer.specs.Bytes.{with_word}
@@ -35,6 +36,12 @@ module _ (m : List ℕ) (n : ℕ) (out : List ℕ) where
     pub content_known : (after : List ℕ) (r : Result ℕ Refusal) → GivesRead (set_content (some (plan_of p.memory.now)) (length out) n) out after r
         → ContentPromise m n out after r
     content_known after r g = rw (← same, state_some p.memory.now p.sound) g
+
+-- a set that is held: its number, and its content behind it
+pub content_given_lem : (p : Plan) (n : ℕ) (out : List ℕ) → SET-BODY ≤ length out → (content after : List ℕ) → over_room p n ≡ false → held p n ≡ some content
+    → length content ≡ CONTENT-BYTES → after ≡ written_over (n / 256 ∷ n % 256 ∷ content) out → GivesRead (set_content (some p) (length out) n) out after (Ok SET-BODY)
+content_given_lem p n out room content after o is size written =
+    rw (le-ltb (length out) SET-BODY room, o, is) (record { result = record { refusal = refl; bytes = rw size }; buffer = written })
 
 -- its number put over the first two bytes of the buffer, and its content copied behind them
 pub content_written : (out put copied content : List ℕ) (n : ℕ) → length content ≡ CONTENT-BYTES → SET-BODY ≤ length out → put ≡ with_word out 0 n

@@ -13,7 +13,7 @@ use Rattle.meaning.specs.Sizes.{OPENING-BYTES}
 use Rattle.meaning.specs.Basics.{is_zero, is_some, written_over}
 use Rattle.std.specs.Prelude.{if◌then◌else◌}
 use Rattle.meaning.specs.Plan.{Plan}
-use Rattle.meaning.specs.Calls.{Operation, open_plan, Call, OPEN-PLAN, REMOVE-RULE, LIST, LOSSES, is_call, body_length, kind_of, body_of, refusal, made, after}
+use Rattle.meaning.specs.Calls.{Operation, open_plan, Call, OPEN-PLAN, REMOVE-RULE, LIST, LOSSES, is_call, body_length, kind_of, operation_of, body_of, refusal, made, after}
 use Rattle.meaning.specs.Answers.{edit_of, number_of_edit, number_of_refusal, number_of_provisioned}
 use Rattle.meaning.specs.declared.Refusal.{Refusal}
 use Rattle.meaning.specs.declared.kinds.Edit.{Edit}
@@ -24,7 +24,7 @@ use Rattle.plan.specs.State.{sound_of, state_of}
 use Rattle.changes.specs.Promise.{memory_of, calls}
 use Rattle.meaning.proofs.Tests.{is_true}
 use Rattle.meaning.proofs.Telling.{refusal_number}
-use Rattle.meaning.proofs.CallKinds.{is_opening, Asks, opens, changes, asks, kind_back, edits}
+use Rattle.meaning.proofs.CallKinds.{is_opening, Asks, opens, changes, asks, kind_back, kind_of_lem, edits}
 use Rattle.run.specs.Runs.{InRun, RunProvides}
 use Rattle.run.proofs.RunLaws.{memory_kept, run_state}
 use Rattle.text.specs.Writes.{Writes}
@@ -52,6 +52,10 @@ made_some o s b = go (asks o) s
     go opens (some p) = refl
     go (changes c) none = rw (c.made_is none b, c.other)
     go (changes c) (some p) = rw (c.made_is (some p) b)
+
+-- the kind that opens is that of the opening
+pub opening_kind : (k : ℕ) → is_call k ≡ true → is_opening (operation_of k) ≡ is_zero k
+opening_kind k h = ap is_zero (kind_of_lem k h)
 
 -- a call leaves a plan where one was, and where it is an opening that is accepted
 after_some : (o : Operation) (s : Option Plan) (body : List ℕ)
