@@ -39,7 +39,7 @@ use Rattle.charging.proofs.Charging.{charged_own, holds_own, charged_ledger, cha
 use Rattle.text.specs.Writes.{Writes, answer_in, NumberIn}
 use Rattle.text.proofs.Lines.{named}
 use Rattle.text.proofs.LineTexts.{refused_is}
-use Rattle.billing.specs.Lines.{answered_by, ledger_by, AnsweredPromise, OfRecord, PricePromise}
+use Rattle.billing.specs.Lines.{answered_by, ledger_by, AnsweredPromise, OfRecord, OfPricedRecord, PricePromise}
 use Rattle.billing.proofs.NumberTexts.{number_in_lem, line_is}
 
 -- the length of a record's body, and whether it is in range: a call record's, or a number's
@@ -83,6 +83,11 @@ module _ (m prices : List ℕ) (l : Ledger) (body : List ℕ) where
       rw (le-ltb (length body) NUMBER-BYTES (omega (arith, size)), take_all NUMBER-BYTES body (omega (arith, size)), o) in
       refuses false (some (plan_of m)) RANGE is refl (λ z. omega (arith, z)) w)
 
+-- A NUMBER OF A RECORD: what is said of it where no price list is asked for
+
+pub of_record : {call : Bool} {prices body number : List ℕ} {l : Ledger} → OfPricedRecord call prices l body number → OfRecord call l body number
+of_record o = record { alone = o.alone; charged_with = λ e. (o.charged_with e).chargeable; in_record = o.in_record }
+
 -- AN ANSWER, over what is known
 
 module _ (m : List ℕ) {number : List ℕ} (sound : sound_of m ≡ true) (k : Known number) where
@@ -107,10 +112,10 @@ module _ (m : List ℕ) {number : List ℕ} (sound : sound_of m ≡ true) (k : K
       in_call : Chargeable l body → number ≡ (call_record_of body).number → HoldsAnswer (answer_of (plan_of m) (number_in body)) digits r
       in_call c e = subst (λ (x : List ℕ). HoldsAnswer (answer_of (plan_of m) (number_of x)) digits r) e h
 
-      pub own_line : {output left : List ℕ} {n : ℕ} (b : Bool) → OfRecord b prices l body number → r.refusal ≢ 0 → Writes (no_line r.refusal) output left n
+      pub own_line : {output left : List ℕ} {n : ℕ} (b : Bool) → OfRecord b l body number → r.refusal ≢ 0 → Writes (no_line r.refusal) output left n
           → AnsweredPromise b (state_of m) (rows_in prices) l body output l left n
       own_line true o i w =
-          let c = (o.charged_with refl).chargeable in
+          let c = o.charged_with refl in
           let h' = in_call c (o.in_record refl) in
           let same : answer_of (plan_of m) (number_of number) ≡ answer_of (plan_of m) (number_in body) = ap (λ (x : List ℕ). answer_of (plan_of m) (number_of x)) (o.in_record refl) in
           rw (state_some m sound) (refuses m prices l body true (some (plan_of m)) r.refusal (charged_own m prices c h' i ∙ (sym same ∙ own i)) (holds_own m prices c h' i).ledger i w)
@@ -121,18 +126,18 @@ module _ (m : List ℕ) {number : List ℕ} (sound : sound_of m ≡ true) (k : K
         abbrev due : Option ℕ
         due = due_on (rows_in prices) (call_record_of body).seconds (priced_by r.outcome (number_in body).digits (take r.digits digits))
 
-        pub refused_charge : {output left : List ℕ} {n c : ℕ} {after : Ledger} (b : Bool) → OfRecord b prices l body number → ChargesIf b due (call_record_of body) l after c → c ≢ 0
+        pub refused_charge : {output left : List ℕ} {n c : ℕ} {after : Ledger} (b : Bool) → OfRecord b l body number → ChargesIf b due (call_record_of body) l after c → c ≢ 0
             → Writes (no_line c) output left n → AnsweredPromise b (state_of m) (rows_in prices) l body output after left n
         refused_charge {c = c} true o g i w =
-            let k' = (o.charged_with refl).chargeable in
+            let k' = o.charged_with refl in
             let h' = in_call k' (o.in_record refl) in
             rw (state_some m sound) (refuses m prices l body true (some (plan_of m)) c (charged_refused m prices k' h' given (g.charges refl) i) (charged_ledger m prices k' h' given (g.charges refl)) i w)
         refused_charge false o g i w = absurd (i (g.none_is refl))
 
-        pub answered_written : {output left : List ℕ} {n c : ℕ} {after : Ledger} (b : Bool) → OfRecord b prices l body number → ChargesIf b due (call_record_of body) l after c → c ≡ 0
+        pub answered_written : {output left : List ℕ} {n c : ℕ} {after : Ledger} (b : Bool) → OfRecord b l body number → ChargesIf b due (call_record_of body) l after c → c ≡ 0
             → Writes (number_line (answer_in r (take r.digits digits))) output left n → AnsweredPromise b (state_of m) (rows_in prices) l body output after left n
         answered_written true o g i w =
-            let k' = (o.charged_with refl).chargeable in
+            let k' = o.charged_with refl in
             let h' = in_call k' (o.in_record refl) in
             let is : answer_of (plan_of m) (number_of number) ≡ charged (some (plan_of m)) (some (rows_in prices)) l DIGIT-ROOM body =
             ap (λ (x : List ℕ). answer_of (plan_of m) (number_of x)) (o.in_record refl) ∙ sym (charged_answered m prices k' h' given (g.charges refl) i) in

@@ -9,7 +9,7 @@ use Rattle.meaning.specs.Ledger.{Ledger}
 use Rattle.meaning.specs.Charges.{call_record_of, charged, ledger_after}
 use Rattle.meaning.specs.Records.{accepted_line, number_line, rows_or}
 use Rattle.prices.specs.Layout.{prices_image, rows_in}
-use Rattle.charging.specs.Promises.{Priceable}
+use Rattle.charging.specs.Promises.{Chargeable, Priceable}
 use Rattle.text.specs.Writes.{Writes}
 use Rattle.billing.specs.Parts.{loss_part}
 use Rattle.billing.specs.declared.Reported.{Reported}
@@ -31,7 +31,13 @@ pub record AnsweredPromise (call : Bool) (s : Option Plan) (rs : List PriceRow) 
   pub ledger : after ≡ ledger_by call s rs l body
 
 -- a number of a record: the body itself, or the number of a call record that can be charged
-pub record OfRecord (call : Bool) (prices : List ℕ) (l : Ledger) (body number : List ℕ) : Type 0 where
+pub record OfRecord (call : Bool) (l : Ledger) (body number : List ℕ) : Type 0 where
+  pub alone : call ≡ false → number ≡ body
+  pub charged_with : call ≡ true → Chargeable l body
+  pub in_record : call ≡ true → number ≡ (call_record_of body).number
+
+-- the same of a call record that can be charged by a price list
+pub record OfPricedRecord (call : Bool) (prices : List ℕ) (l : Ledger) (body number : List ℕ) : Type 0 where
   pub alone : call ≡ false → number ≡ body
   pub charged_with : call ≡ true → Priceable prices l body
   pub in_record : call ≡ true → number ≡ (call_record_of body).number

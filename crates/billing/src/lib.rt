@@ -9,7 +9,7 @@ ghost use Rattle.plan.specs.State.{state_of};
 ghost use Rattle.number.specs.Answering.{Known};
 ghost use Rattle.prices.specs.Layout.{rows_in, prices_in_range};
 ghost use Rattle.text.specs.Writes.{LONGEST, Writes};
-ghost use Rattle.billing.specs.Lines.{AnsweredPromise, OfRecord, PricePromise, LossPromise};
+ghost use Rattle.billing.specs.Lines.{AnsweredPromise, OfPricedRecord, PricePromise, LossPromise};
 
 use meaning::Totals;
 use meaning::refusals::ACCEPTED;
@@ -53,7 +53,7 @@ pub fn answered_line(
     number: &[u8],
     output: &mut [u8],
 ) -> Entered
-    requires { Known number.now × OfRecord call prices.now (ledger_of districts.old whole) body.now number.now × (LONGEST ≤ length output.old) }
+    requires { Known number.now × OfPricedRecord call prices.now (ledger_of districts.old whole) body.now number.now × (LONGEST ≤ length output.old) }
     ensures { AnsweredPromise call (state_of plan.entry.memory.now) (rows_in prices.now) (ledger_of districts.old whole) body.now output.old (ledger_of districts.new result.whole) output.new result.written }
 {
     let mut digits = [0u8; ANSWER_BYTES];

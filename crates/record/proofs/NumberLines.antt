@@ -27,7 +27,7 @@ use Rattle.buffer.proofs.ListLaws.{drop_take}
 use Rattle.charging.specs.Promises.{head_in_range}
 use Rattle.charging.proofs.Ranges.{head_out, number_decides}
 use Rattle.text.specs.Writes.{Writes}
-use Rattle.billing.specs.Lines.{AnsweredPromise, OfRecord}
+use Rattle.billing.specs.Lines.{AnsweredPromise, OfRecord, OfPricedRecord}
 use Rattle.billing.proofs.ChargeLines.{body_bytes, body_in_range, unsound_line, outside_line}
 use Rattle.record.specs.Numbers.{has_number, body_at, NumberAt, alone, called, RefusedAt, no_plan, outside, GivesPlace}
 
@@ -102,16 +102,23 @@ unfolding body_length
 at_outside (alone h) e = e
 at_outside {input = input} (called h i) e = number_decides (body_at CALL input) i ∙ (ap number_in_range (sym (in_call input)) ∙ e)
 
-pub at_record : {k at : ℕ} {input prices : List ℕ} {l : Ledger} → NumberAt k input at → prices_in_range prices ≡ true → ledger_in_range l ≡ true → number_in_range (number_at at input) ≡ true
-    → OfRecord (eqb k CALL) prices l (body_at k input) (number_at at input)
+pub at_record : {k at : ℕ} {input : List ℕ} {l : Ledger} → NumberAt k input at → ledger_in_range l ≡ true → number_in_range (number_at at input) ≡ true
+    → OfRecord (eqb k CALL) l (body_at k input) (number_at at input)
 unfolding body_length call_record_of
-at_record (alone h) p l e = record { alone = λ z. refl; charged_with = λ z. absurd (true_is false z); in_record = λ z. absurd (true_is false z) }
-at_record {input = input} (called h i) p l e =
+at_record (alone h) l e = record { alone = λ z. refl; charged_with = λ z. absurd (true_is false z); in_record = λ z. absurd (true_is false z) }
+at_record {input = input} (called h i) l e =
     record {
       alone = λ z. absurd (true_is false (sym z));
-      charged_with = λ z. record { prices_in = p; chargeable = record { ledger_in = l; whole = body_size CALL input refl h; range = number_decides (body_at CALL input) i ∙ (ap number_in_range (sym (in_call input)) ∙ e) } };
+      charged_with = λ z. record { ledger_in = l; whole = body_size CALL input refl h; range = number_decides (body_at CALL input) i ∙ (ap number_in_range (sym (in_call input)) ∙ e) };
       in_record = λ z. in_call input;
     }
+
+-- the same beside a price list that is in range
+pub at_priced : {k at : ℕ} {input prices : List ℕ} {l : Ledger} → NumberAt k input at → prices_in_range prices ≡ true → ledger_in_range l ≡ true → number_in_range (number_at at input) ≡ true
+    → OfPricedRecord (eqb k CALL) prices l (body_at k input) (number_at at input)
+at_priced n p l e =
+    let o = at_record n l e in
+    record { alone = o.alone; charged_with = λ z. record { prices_in = p; chargeable = o.charged_with z }; in_record = o.in_record }
 
 -- REFUSED BEFORE ITS NUMBER IS LOOKED AT
 

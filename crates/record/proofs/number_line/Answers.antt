@@ -2,7 +2,7 @@
 use mathlib.Core.Path.{sym, ◌∙◌}
 use native.Mathlib.Omega.{arith}
 use Rattle.billing.proofs.ChargeLines.{outside_line}
-use Rattle.record.proofs.NumberLines.{at_fits, at_few, at_long, at_size, at_body, at_outside, at_record}
+use Rattle.record.proofs.NumberLines.{at_fits, at_few, at_long, at_size, at_body, at_outside, at_priced}
 use Rattle.record.proofs.number_line.Goals as goal
 
 pub overflow_add-end : goal.overflow_add-end
@@ -24,7 +24,7 @@ slice_bounds-answered_line-end c = at_fits c.requires.2
 pub answered_line-requires : goal.answered_line-requires
 answered_line-requires c = let range = sym c.number_in_range.ensures ∙ c.if-not-number_in_range.false in (
   record { whole = at_long c.args.at c.args.input.now c.requires.2; range = range },
-  rw (at_body c.requires.2) (at_record c.requires.2 c.requires.0.prices_in c.requires.0.ledger_in range),
+  rw (at_body c.requires.2) (at_priced c.requires.2 c.requires.0.prices_in c.requires.0.ledger_in range),
   c.requires.3,
 )
 
